@@ -1,0 +1,52 @@
+-- Where the loop stops, the answer and the memory are those of the definition, and the law follows from that.
+use mathlib.Core.Path.{_≡_, refl, _∙_, ap}
+use Prim.Native.Nat.{_<_, _≤_}
+use native.Mathlib.Omega.{arith}
+use lib.ListN.{length, take}
+use borrow.Author.Needs.{needs}
+use Rattle.std.proofs.shelf.Lists.{length-take-le}
+use Rattle.std.proofs.shelf.Results.{err-from-errBy}
+use Rattle.tables.specs.Screening.{whole, screened}
+use Rattle.tables.proofs.Scans.{scanned-none, scanned-more, stopped, stopped-at-row, stopped-at-end}
+use Rattle.tables.proofs.Laws.{law-of}
+use Rattle.tables.proofs.screening.screen.Needs as need
+
+pub returns-in-Break-room-for : need.returns-in-Break-room-for
+returns-in-Break-room-for g c =
+    let p = err-from-errBy (c .from-residual .result) (c .from-residual .ensures .1) in
+    let room = c .in-Break-room-for .ensures tt .answer in
+    let a : c .from-residual .result ≡ screened (g .R·Citing .cited) (g .R·Citing .limit) (c .args .rows .now) (c .args .spans .now) .answer = rw (p .1, p .2, ← room) refl in
+    let w : c .args .spans .now ≡ screened (g .R·Citing .cited) (g .R·Citing .limit) (c .args .rows .now) (c .args .spans .now) .written = rw (← room) refl in
+    record { answer = a; memory = w; law = law-of _ _ _ _ _ _ a w }
+
+pub next-span-requires : need.next-span-requires
+next-span-requires g c κs =
+    let fits = c .in-Continue-room-for .ensures tt .fits in
+    let n : length (take (c .loop-i .i) (c .loop-i .spans)) ≡ c .loop-i .i = length-take-le _ _ (omega arith) in
+    record { bounded = c .loop-i .inv .bounded; short = omega (arith, g .R·Citing·met .limited) }
+
+pub loop-i-holds : need.loop-i-holds
+loop-i-holds g c = scanned-none _ _ _
+
+pub returns-in-Break-spans : need.returns-in-Break-spans
+returns-in-Break-spans g c =
+    let fits = c .in-Continue-room-for .ensures tt .fits in
+    let p = err-from-errBy (c .from-residual-in-Break-spans .result) (c .from-residual-in-Break-spans .ensures .1) in
+    let e = stopped-at-row (g .R·Citing .cited) (c .args .rows .now) (c .args .spans .now) (c .loop-i .i) (c .loop-i .spans) (c .loop-i .inv) (c .index-rows-i .result) (c .loop-i-test .taken) (c .index-rows-i .is) (c .in-Break-spans .field-0 .0) (c .in-Break-spans .ensures tt) in
+    let s = stopped (g .R·Citing .cited) (g .R·Citing .limit) (c .args .rows .now) (c .args .spans .now) (c .loop-i .i) (c .loop-i .spans) (c .loop-i .inv) (c .in-Continue-room-for .ensures tt .answer) (omega arith) _ e in
+    let a : c .from-residual-in-Break-spans .result ≡ screened (g .R·Citing .cited) (g .R·Citing .limit) (c .args .rows .now) (c .args .spans .now) .answer = rw (p .1, p .2) (s .answer) in
+    record { answer = a; memory = s .written; law = law-of _ _ _ _ _ _ a (s .written) }
+
+pub loop-i-again : need.loop-i-again
+loop-i-again g c =
+    let fits = c .in-Continue-room-for .ensures tt .fits in
+    scanned-more (g .R·Citing .cited) (c .args .rows .now) (c .args .spans .now) (c .loop-i .i) (c .loop-i .spans) (c .loop-i .inv) (c .index-rows-i .result) (c .loop-i-test .taken) (omega arith) (c .index-rows-i .is) (c .in-Continue-spans .field-0) (c .in-Continue-spans .ensures tt)
+
+pub returns : need.returns
+returns g c =
+    let fits = c .in-Continue-room-for .ensures tt .fits in
+    let e = stopped-at-end (g .R·Citing .cited) (c .args .rows .now) (c .args .spans .now) (c .loop-i .i) (c .loop-i .spans) (c .loop-i .inv) (omega arith) in
+    let s = stopped (g .R·Citing .cited) (g .R·Citing .limit) (c .args .rows .now) (c .args .spans .now) (c .loop-i .i) (c .loop-i .spans) (c .loop-i .inv) (c .in-Continue-room-for .ensures tt .answer) (omega arith) _ e in
+    let n : length (c .args .rows .now) ≡ c .loop-i .i = omega arith in
+    let a = c .whole-table .ensures ∙ ap (λ n. whole (take n (c .loop-i .spans))) n ∙ s .answer in
+    record { answer = a; memory = s .written; law = law-of _ _ _ _ _ _ a (s .written) }

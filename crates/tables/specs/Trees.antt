@@ -1,0 +1,82 @@
+-- Tables that list trees: every row comes after the trees below it, and cites their roots.
+use mathlib.Core.Path.{_≡_}
+use mathlib.Core.Logic.{_⊎_}
+use mathlib.Core.List.{List, [], _∷_, _++_}
+use Prim.Native.Nat.{ℕ, _+_, _<_, _≤_}
+use lib.ListN.{length, drop, take}
+use Rattle.std.specs.declared.option.Option.{Option}
+use Rattle.std.specs.declared.option.Option.the-variants.{Some, None}
+use Rattle.std.specs.declared.result.Result.{Result}
+use Rattle.std.specs.declared.result.Result.the-variants.{Ok, Err}
+use Rattle.tables.specs.declared.screening.ScreenFault.{ScreenFault}
+use Rattle.tables.specs.declared.screening.ScreenFault.the-variants.{Size, Memory, Unknown, Citation, Divided}
+
+-- Trees side by side: the first one's row, the trees below it, and the trees after it.
+pub data Forest (R : Type 0) : Type 0 where
+  bare : Forest R
+  plant : R → Forest R → Forest R → Forest R
+
+abbrev pub size : {R : Type 0} → Forest R → ℕ
+size bare = 0
+size (plant r below after) = size below + (1 + size after)
+
+-- the rows in post-order: what is below a row, the row, what comes after
+abbrev pub post : {R : Type 0} → Forest R → List R
+post bare = []
+post (plant r below after) = post below ++ (r ∷ post after)
+
+-- the span of each row in that order: the rows of its tree
+abbrev pub spans-of : {R : Type 0} → Forest R → List ℕ
+spans-of bare = []
+spans-of (plant r below after) = spans-of below ++ ((size below + 1) ∷ spans-of after)
+
+-- the row numbers of the roots, where the listing begins at the row `base`
+abbrev pub roots : {R : Type 0} → ℕ → Forest R → List ℕ
+roots base bare = []
+roots base (plant r below after) = (base + size below) ∷ roots (base + size below + 1) after
+
+-- every row cites the roots of the trees right below it
+abbrev pub Cites : {R : Type 0} → (R → Option (List ℕ)) → ℕ → Forest R → Type 0
+Cites cited base bare = Unit {0}
+Cites cited base (plant r below after) =
+    Cites cited base below × (cited r ≡ Some (roots base below)) × Cites cited (base + size below + 1) after
+
+-- the rows list trees side by side, in post-order, with their citations
+pub record Lists-trees {R : Type 0} (cited : R → Option (List ℕ)) (rows : List R) : Type 0 where
+  pub forest : Forest R
+  pub listing : rows ≡ post forest
+  pub citing : Cites cited 0 forest
+
+-- the rows list one tree
+pub record Lists {R : Type 0} (cited : R → Option (List ℕ)) (rows : List R) : Type 0 where
+  pub root : R
+  pub below : Forest R
+  pub listing : rows ≡ post (plant root below bare)
+  pub citing : Cites cited 0 (plant root below bare)
+
+abbrev pub tree : {R : Type 0} {cited : R → Option (List ℕ)} {rows : List R} → Lists cited rows → Forest R
+tree t = plant (t .root) (t .below) bare
+
+-- The rows before row i list trees, whose sizes are written, and with row i they list none.
+pub record Stops-at {R : Type 0} (cited : R → Option (List ℕ)) (rows : List R) (memory written : List ℕ) (i : ℕ) : Type 0 where
+  pub within : i < length rows
+  pub before : Lists-trees cited (take i rows)
+  pub sizes : written ≡ spans-of (before .forest) ++ drop i memory
+  pub no-more : Lists-trees cited (take (i + 1) rows) → ⊥
+
+-- The rows list trees, whose sizes are written, and not one tree; i is the last row.
+pub record Divides-at {R : Type 0} (cited : R → Option (List ℕ)) (rows : List R) (memory written : List ℕ) (i : ℕ) : Type 0 where
+  pub last : i + 1 ≡ length rows
+  pub trees : Lists-trees cited rows
+  pub sizes : written ≡ spans-of (trees .forest) ++ drop (length rows) memory
+  pub not-one : Lists cited rows → ⊥
+
+-- What screening means. It accepts exactly the tables of lawful length, with memory enough, that list one tree. There is
+-- one such tree, and the sizes of its subtrees are written. A refusal at a row says how far the rows list trees.
+pub record Screening-law {R : Type 0} (cited : R → Option (List ℕ)) (limit : ℕ) (rows : List R) (memory : List ℕ) (answer : Result (Unit {0}) ScreenFault) (written : List ℕ) : Type 0 where
+  pub only : answer ≡ Ok tt → Lists cited rows × (length rows ≤ limit) × (length rows ≤ length memory)
+  pub every : Lists cited rows → length rows ≤ limit → length rows ≤ length memory → answer ≡ Ok tt
+  pub sizes : answer ≡ Ok tt → (t : Lists cited rows) → written ≡ spans-of (tree t) ++ drop (length rows) memory
+  pub one : (s t : Lists cited rows) → tree s ≡ tree t
+  pub stops : (i : ℕ) → (answer ≡ Err (Unknown i)) ⊎ (answer ≡ Err (Citation i)) → Stops-at cited rows memory written i
+  pub divides : (i : ℕ) → answer ≡ Err (Divided i) → Divides-at cited rows memory written i

@@ -1,0 +1,60 @@
+// Kinds of rows that cite earlier rows of their table, so that such a table can be screened.
+ghost use mathlib.Core.Path.{_≡_};
+ghost use mathlib.Core.List.{List};
+ghost use Prim.Native.Nat.{ℕ, _<_};
+ghost use denote.Ref.{now};
+ghost use Rattle.std.specs.declared.option.Option.{Option};
+ghost use Rattle.tables.specs.Few.{listing};
+ghost use Rattle.tables.specs.Rows.{syntax-cites, derivation-cites};
+
+use crate::few::Few;
+use crate::kinds::Kind;
+use crate::rows::DerivationRow;
+use crate::rows::SyntaxRow;
+use crate::rules::Rule;
+
+pub trait Citing {
+    // the length of the longest table
+    ghost limit: { ℕ };
+
+    // the rows that a row cites, first to last; none where the row is not as its code asks
+    ghost cited: { Self → Option (List ℕ) };
+
+    law limited: { limit < 65535 };
+
+    fn longest() -> usize
+        ensures { λ r. ⌜ r ≡ limit ⌝ };
+
+    fn citations(&self) -> Option<Few<u16>>
+        ensures { λ r. ⌜ listing r ≡ cited (now (self .entry)) ⌝ };
+}
+
+pub impl Citing for SyntaxRow as SyntaxCiting {
+    ghost limit = { 1024 };
+
+    ghost cited = { syntax-cites };
+
+    fn longest() -> usize {
+        1024
+    }
+
+    fn citations(&self) -> Option<Few<u16>> {
+        let kind = Kind::of(self.kind)?;
+        self.children.cited(kind.children())
+    }
+}
+
+pub impl Citing for DerivationRow as DerivationCiting {
+    ghost limit = { 2048 };
+
+    ghost cited = { derivation-cites };
+
+    fn longest() -> usize {
+        2048
+    }
+
+    fn citations(&self) -> Option<Few<u16>> {
+        let rule = Rule::of(self.rule)?;
+        self.premises.cited(rule.premises())
+    }
+}

@@ -1,0 +1,95 @@
+// The kinds of syntax rows: which code each has, what sort of phrase it makes, and what it is made of.
+ghost use mathlib.Core.Path.{_≡_};
+ghost use Rattle.tables.specs.Few.{listed};
+ghost use Rattle.tables.specs.Kinds.{kind-of, sort-of, children-of, admitted};
+
+use crate::few::Few;
+
+// What a phrase of the language is: an arithmetic expression, a test or a command.
+#[derive(Clone, Copy, PartialEq, Eq)]
+pub enum Sort {
+    Expression,
+    Test,
+    Command,
+}
+
+#[derive(Clone, Copy)]
+pub enum Kind {
+    Numeral,
+    Name,
+    Sum,
+    Product,
+    True,
+    False,
+    Less,
+    Not,
+    And,
+    Skip,
+    Assignment,
+    Sequence,
+    If,
+    While,
+}
+
+impl Kind {
+    // The kind that a code stands for, if it stands for one.
+    pub fn of(code: u8) -> Option<Kind>
+        ensures { λ r. ⌜ r ≡ kind-of code ⌝ }
+    {
+        match code {
+            1 => Some(Kind::Numeral),
+            2 => Some(Kind::Name),
+            3 => Some(Kind::Sum),
+            4 => Some(Kind::Product),
+            5 => Some(Kind::True),
+            6 => Some(Kind::False),
+            7 => Some(Kind::Less),
+            8 => Some(Kind::Not),
+            9 => Some(Kind::And),
+            10 => Some(Kind::Skip),
+            11 => Some(Kind::Assignment),
+            12 => Some(Kind::Sequence),
+            13 => Some(Kind::If),
+            14 => Some(Kind::While),
+            _ => None,
+        }
+    }
+
+    // The sort of the phrases of this kind.
+    pub fn sort(self) -> Sort
+        ensures { λ r. ⌜ r ≡ sort-of self ⌝ }
+    {
+        match self {
+            Kind::Numeral | Kind::Name | Kind::Sum | Kind::Product => Sort::Expression,
+            Kind::True | Kind::False | Kind::Less | Kind::Not | Kind::And => Sort::Test,
+            Kind::Skip | Kind::Assignment | Kind::Sequence | Kind::If | Kind::While => Sort::Command,
+        }
+    }
+
+    // The sorts of the children, first to last.
+    pub fn children(self) -> Few<Sort>
+        ensures { λ r. ⌜ listed r ≡ children-of self ⌝ }
+    {
+        match self {
+            Kind::Numeral | Kind::Name | Kind::True | Kind::False | Kind::Skip => Few::Zero,
+            Kind::Sum | Kind::Product | Kind::Less => Few::Two(Sort::Expression, Sort::Expression),
+            Kind::Not => Few::One(Sort::Test),
+            Kind::And => Few::Two(Sort::Test, Sort::Test),
+            Kind::Assignment => Few::One(Sort::Expression),
+            Kind::Sequence => Few::Two(Sort::Command, Sort::Command),
+            Kind::If => Few::Three(Sort::Test, Sort::Command, Sort::Command),
+            Kind::While => Few::Two(Sort::Test, Sort::Command),
+        }
+    }
+
+    // Whether a row of this kind may hold the datum: any number in a numeral, a name from 0 to 63, else 0.
+    pub fn admits(self, datum: i32) -> bool
+        ensures { λ r. ⌜ r ≡ admitted self datum ⌝ }
+    {
+        match self {
+            Kind::Numeral => true,
+            Kind::Name | Kind::Assignment => 0 <= datum && datum < 64,
+            _ => datum == 0,
+        }
+    }
+}

@@ -1,0 +1,75 @@
+// The rules of large steps: which code each has, and what it has for premises.
+ghost use mathlib.Core.Path.{_≡_};
+ghost use Rattle.tables.specs.Few.{listed};
+ghost use Rattle.tables.specs.Rules.{rule-of, premises-of};
+
+use crate::few::Few;
+
+// What a premise derives: a child of the phrase that the rule is about, or that phrase again.
+#[derive(Clone, Copy)]
+pub enum Premise {
+    First,
+    Second,
+    Third,
+    Itself,
+}
+
+#[derive(Clone, Copy)]
+pub enum Rule {
+    Num,
+    Var,
+    Sum,
+    Prod,
+    True,
+    False,
+    Less,
+    Not,
+    And,
+    Skip,
+    Assgn,
+    Seq,
+    IfT,
+    IfF,
+    WhileF,
+    WhileT,
+}
+
+impl Rule {
+    // The rule that a code stands for, if it stands for one.
+    pub fn of(code: u8) -> Option<Rule>
+        ensures { λ r. ⌜ r ≡ rule-of code ⌝ }
+    {
+        match code {
+            1 => Some(Rule::Num),
+            2 => Some(Rule::Var),
+            3 => Some(Rule::Sum),
+            4 => Some(Rule::Prod),
+            5 => Some(Rule::True),
+            6 => Some(Rule::False),
+            7 => Some(Rule::Less),
+            8 => Some(Rule::Not),
+            9 => Some(Rule::And),
+            10 => Some(Rule::Skip),
+            11 => Some(Rule::Assgn),
+            12 => Some(Rule::Seq),
+            13 => Some(Rule::IfT),
+            14 => Some(Rule::IfF),
+            15 => Some(Rule::WhileF),
+            16 => Some(Rule::WhileT),
+            _ => None,
+        }
+    }
+
+    // The premises, first to last.
+    pub fn premises(self) -> Few<Premise>
+        ensures { λ r. ⌜ listed r ≡ premises-of self ⌝ }
+    {
+        match self {
+            Rule::Num | Rule::Var | Rule::True | Rule::False | Rule::Skip => Few::Zero,
+            Rule::Not | Rule::Assgn | Rule::WhileF => Few::One(Premise::First),
+            Rule::Sum | Rule::Prod | Rule::Less | Rule::And | Rule::Seq | Rule::IfT => Few::Two(Premise::First, Premise::Second),
+            Rule::IfF => Few::Two(Premise::First, Premise::Third),
+            Rule::WhileT => Few::Three(Premise::First, Premise::Second, Premise::Itself),
+        }
+    }
+}
