@@ -382,7 +382,7 @@ law-at cited limit rows memory s t e h = subst (λ (x : Screened). Screening-law
 pub screening-law : {R : Type 0} (cited : R → Option (List ℕ)) (limit : ℕ) (rows : List R) (memory : List ℕ) → Screening-law cited limit rows memory (screened cited limit rows memory .answer) (screened cited limit rows memory .written)
 screening-law cited limit rows memory =
     elim (cases-result (room-for limit (length rows) (length memory))) [
-        inl (tt, room) ↦
+        inl (_, room) ↦
         let s : screened cited limit rows memory ≡ over (scan cited rows []) memory = rw room refl in
         elim (progress cited rows bare tt) [
             inl t ↦ law-at cited limit rows memory _ _ (s ∙ ap (λ x. over x memory) (t .ends)) (came-through cited limit rows memory room t)

@@ -1,3 +1,5 @@
 mod Scans
 mod Forests
 mod Laws
+mod Held
+mod Formed

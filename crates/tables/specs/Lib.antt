@@ -5,3 +5,7 @@ pub mod Fields
 pub mod Rows
 pub mod Screening
 pub mod Trees
+pub mod Spans
+pub mod Forming
+pub mod Refusals
+pub mod Screened

@@ -5,3 +5,6 @@ pub mod rules;
 pub mod rows;
 pub mod citing;
 pub mod screening;
+pub mod forming;
+pub mod program;
+pub mod derivation;

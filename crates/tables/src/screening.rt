@@ -2,13 +2,15 @@
 // The span of a row is the number of rows of the tree that it is the root of: 1 more than the spans of the rows it cites.
 ghost use mathlib.Core.Path.{_≡_};
 ghost use Prim.Native.Nat.{ℕ, _+_, _<_, _≤_};
-ghost use lib.ListN.{length};
+ghost use lib.ListN.{length, take};
 ghost use Rattle.std.specs.declared.result.Result.the-variants.{Ok};
 ghost use Rattle.std.specs.declared.option.Option.the-variants.{Some};
 ghost use Rattle.std.specs.Vec.{made};
 ghost use Rattle.tables.specs.Few.{listed};
 ghost use Rattle.tables.specs.Screening.{Bounded, before, laid, next-span, room-for, whole, screened};
 ghost use Rattle.tables.specs.Trees.{Screening-law};
+ghost use Rattle.tables.specs.Refusals.{screen-refusal};
+ghost use Rattle.tables.specs.Spans.{confirmed, Accepted, Spans-law};
 
 use crate::citing::Citing;
 use crate::few::Few;
@@ -25,6 +27,31 @@ pub enum ScreenFault {
     Citation { row: u16 },
     // the rows list several trees
     Divided { row: u16 },
+}
+
+impl ScreenFault {
+    // The number under which the refusal is published.
+    pub fn number(self) -> u8
+        ensures { λ r. ⌜ r ≡ screen-refusal self .number ⌝ }
+    {
+        match self {
+            ScreenFault::Size => 21,
+            ScreenFault::Memory => 22,
+            ScreenFault::Unknown { row: _ } => 23,
+            ScreenFault::Citation { row: _ } => 24,
+            ScreenFault::Divided { row: _ } => 25,
+        }
+    }
+
+    // The row at fault, or 0 where none is.
+    pub fn place(self) -> u16
+        ensures { λ r. ⌜ r ≡ screen-refusal self .place ⌝ }
+    {
+        match self {
+            ScreenFault::Size | ScreenFault::Memory => 0,
+            ScreenFault::Unknown { row } | ScreenFault::Citation { row } | ScreenFault::Divided { row } => row,
+        }
+    }
 }
 
 // Where the tree of row `cited` begins, if that row comes right before row `next`.
@@ -114,6 +141,23 @@ pub fn screen<R: Citing>(rows: &[R], spans: &mut [u16]) -> Result<(), ScreenFaul
     room_for(rows, spans)?;
     for i in 0..rows.len() {
         spans[i] = next_span(&rows[i], &spans[..i])?;
+    }
+    whole_table(&spans[..rows.len()])
+}
+
+// Whether the spans held are those that screening would write for these rows, and it would accept them.
+pub(crate) fn confirm<R: Citing>(rows: &[R], spans: &[u16]) -> Result<(), ScreenFault>
+    ensures answer { λ r. ⌜ r ≡ confirmed cited limit (now (rows .entry)) (now (spans .entry)) ⌝ }
+    ensures fits { λ r. ⌜ made r (λ _. (0 < length (now (rows .entry))) × (length (now (rows .entry)) ≤ limit) × (length (now (rows .entry)) ≤ length (now (spans .entry)))) ⌝ }
+    ensures law { λ r. ⌜ Spans-law cited limit (now (rows .entry)) (now (spans .entry)) r ⌝ }
+    ensures accepted { λ r. ⌜ made r (λ _. Accepted cited limit (now (rows .entry)) (take (length (now (rows .entry))) (now (spans .entry)))) ⌝ }
+{
+    room_for(rows, spans)?;
+    for i in 0..rows.len() {
+        let span = next_span(&rows[i], &spans[..i])?;
+        if span != spans[i] {
+            return Err(ScreenFault::Citation { row: i as u16 });
+        }
     }
     whole_table(&spans[..rows.len()])
 }

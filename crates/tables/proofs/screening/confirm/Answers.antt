@@ -1,0 +1,45 @@
+use mathlib.Core.Path.{_≡_, refl, sym, _∙_}
+use mathlib.Core.Bool.{false}
+use native.Mathlib.Omega.{arith}
+use lib.Dec.{eqb}
+use lib.ListN.{getD}
+use Rattle.std.proofs.shelf.Tests.{ne-eqb}
+use Rattle.std.proofs.shelf.Results.{err-from-errBy}
+use Rattle.std.specs.declared.result.Result.the-variants.{Err}
+use Rattle.tables.specs.declared.screening.ScreenFault.the-variants.{Citation}
+use Rattle.tables.specs.Spans.{confirmed}
+use Rattle.tables.proofs.Held.{made-always, at-row, rescanned-more, spans-law, confirmed-end}
+use Rattle.tables.proofs.screening.confirm.Needs as need
+
+pub returns-in-Break-span : need.returns-in-Break-span
+returns-in-Break-span g c =
+    let fits = c .in-Continue-room-for .ensures tt .fits in
+    let p = err-from-errBy (c .from-residual-in-Break-span .result) (c .from-residual-in-Break-span .ensures .1) in
+    let e = at-row (g .R·Citing .cited) (c .args .rows .now) (c .loop-i .i) (c .args .spans .now) (c .loop-i .inv) (c .index-rows-i .result) (c .loop-i-test .taken) (omega arith) (c .index-rows-i .is) in
+    let a : Err (c .in-Break-span .field-0 .0) ≡ confirmed (g .R·Citing .cited) (g .R·Citing .limit) (c .args .rows .now) (c .args .spans .now) = sym (rw (← c .in-Continue-room-for .ensures tt .answer) (e ∙ rw (← c .in-Break-span .ensures tt) refl)) in
+    rw (p .1, p .2) (record { answer = a; fits = tt; law = spans-law _ _ _ _ _ a tt; accepted = tt })
+
+pub returns-then-span-spans : need.returns-then-span-spans
+returns-then-span-spans g c =
+    let fits = c .in-Continue-room-for .ensures tt .fits in
+    let e = at-row (g .R·Citing .cited) (c .args .rows .now) (c .loop-i .i) (c .args .spans .now) (c .loop-i .inv) (c .index-rows-i .result) (c .loop-i-test .taken) (omega arith) (c .index-rows-i .is) in
+    let b : eqb (c .in-Continue-span .span) (getD (c .args .spans .now) (c .loop-i .i) 0) ≡ false = ne-eqb _ _ (c .if-span-spans .taken) in
+    let a : Err (Citation (c .loop-i .i)) ≡ confirmed (g .R·Citing .cited) (g .R·Citing .limit) (c .args .rows .now) (c .args .spans .now) = sym (rw (← c .in-Continue-room-for .ensures tt .answer) (e ∙ rw (← c .in-Continue-span .ensures tt) (rw b refl))) in
+    record { answer = a; fits = tt; law = spans-law _ _ _ _ _ a tt; accepted = tt }
+
+pub loop-i-again : need.loop-i-again
+loop-i-again g c =
+    let fits = c .in-Continue-room-for .ensures tt .fits in
+    rescanned-more (g .R·Citing .cited) (c .args .rows .now) (c .loop-i .i) (c .args .spans .now) (c .loop-i .inv) (c .index-rows-i .result) (c .loop-i-test .taken) (omega arith) (c .index-rows-i .is) (c .in-Continue-span .span) (c .in-Continue-span .ensures tt) (c .if-span-spans .left)
+
+pub returns : need.returns
+returns g c =
+    let fits = c .in-Continue-room-for .ensures tt .fits in
+    let h = confirmed-end (g .R·Citing .cited) (g .R·Citing .limit) (c .args .rows .now) (c .loop-i .i) (c .args .spans .now) (c .loop-i .inv) (omega arith) fits (c .in-Continue-room-for .ensures tt .answer) (c .whole-table .result) (c .whole-table .ensures) in
+    record { answer = h .answer; fits = made-always fits (c .whole-table .result); law = spans-law _ _ _ _ _ (h .answer) (h .accepted); accepted = h .accepted }
+
+pub returns-in-Break-room-for : need.returns-in-Break-room-for
+returns-in-Break-room-for g c =
+    let p = err-from-errBy (c .from-residual .result) (c .from-residual .ensures .1) in
+    let a : Err (c .in-Break-room-for .field-0 .0) ≡ confirmed (g .R·Citing .cited) (g .R·Citing .limit) (c .args .rows .now) (c .args .spans .now) = sym (rw (← c .in-Break-room-for .ensures tt .answer) refl) in
+    rw (p .1, p .2) (record { answer = a; fits = tt; law = spans-law _ _ _ _ _ a tt; accepted = tt })

@@ -1,0 +1,99 @@
+-- What makes screened syntax rows a program: every child is of the sort that its parent's kind asks for, every datum is
+-- one that its kind may hold, and the last row is a command.
+use mathlib.Core.Path.{_≡_}
+use mathlib.Core.Bool.{Bool, true, false, cond, _&&_}
+use mathlib.Core.List.{List, [], _∷_}
+use Prim.Native.Nat.{ℕ, _+_, _-_}
+use lib.ListN.{length}
+use Rattle.std.specs.Runs.{nth}
+use Rattle.std.specs.Results.{andOther}
+use Rattle.std.specs.declared.option.Option.{Option}
+use Rattle.std.specs.declared.option.Option.the-variants.{Some, None}
+use Rattle.std.specs.declared.result.Result.{Result}
+use Rattle.std.specs.declared.result.Result.the-variants.{Ok, Err}
+use Rattle.tables.specs.declared.kinds.Sort.{Sort}
+use Rattle.tables.specs.declared.kinds.Sort.the-variants.{Expression, Test, Command}
+use Rattle.tables.specs.declared.kinds.Kind.{Kind}
+use Rattle.tables.specs.declared.rows.SyntaxRow.{SyntaxRow}
+use Rattle.tables.specs.declared.screening.ScreenFault.{ScreenFault}
+use Rattle.tables.specs.declared.forming.ProgramFault.{ProgramFault}
+use Rattle.tables.specs.declared.forming.ProgramFault.the-variants.{Screening, ChildSort, Datum, NotCommand}
+use Rattle.tables.specs.Fields.{in-order}
+use Rattle.tables.specs.Kinds.{kind-of, sort-of, children-of, admitted}
+
+abbrev pub kind-sort : Option Kind → Option Sort
+kind-sort None = None
+kind-sort (Some kind) = Some (sort-of kind)
+
+abbrev pub row-sort : Option SyntaxRow → Option Sort
+row-sort None = None
+row-sort (Some row) = kind-sort (kind-of (row .kind))
+
+-- the sort of the phrase at a row
+abbrev pub sort-at : List SyntaxRow → ℕ → Option Sort
+sort-at rows p = row-sort (nth rows p)
+
+abbrev pub same-sort : Sort → Sort → Bool
+same-sort Expression Expression = true
+same-sort Expression Test = false
+same-sort Expression Command = false
+same-sort Test Expression = false
+same-sort Test Test = true
+same-sort Test Command = false
+same-sort Command Expression = false
+same-sort Command Test = false
+same-sort Command Command = true
+
+abbrev pub is-of : Sort → Option Sort → Bool
+is-of sort None = false
+is-of sort (Some other) = same-sort sort other
+
+-- whether the children are of these sorts, one by one
+abbrev pub sorted : List SyntaxRow → List Sort → List ℕ → Bool
+sorted rows [] ps = true
+sorted rows (s ∷ ss) [] = false
+sorted rows (s ∷ ss) (p ∷ ps) = is-of s (sort-at rows p) && sorted rows ss ps
+
+abbrev pub formed-as : List SyntaxRow → ℕ → SyntaxRow → Option Kind → Result (Unit {0}) ProgramFault
+formed-as rows i row None = Err (ChildSort i)
+formed-as rows i row (Some kind) =
+    cond (sorted rows (children-of kind) (in-order (row .children)))
+    (cond (admitted kind (row .datum)) (Ok tt) (Err (Datum i)))
+    (Err (ChildSort i))
+
+-- whether row i stands among the rows as its kind asks: its children first, then its datum
+abbrev pub formed-row : List SyntaxRow → ℕ → SyntaxRow → Result (Unit {0}) ProgramFault
+formed-row rows i row = formed-as rows i row (kind-of (row .kind))
+
+abbrev pub ends-in-command : List SyntaxRow → Result (Unit {0}) ProgramFault
+ends-in-command rows = cond (is-of Command (sort-at rows (length rows - 1))) (Ok tt) (Err (NotCommand (length rows - 1)))
+
+-- the rows from row i on, and then the last
+abbrev pub formed-from : List SyntaxRow → ℕ → List SyntaxRow → Result (Unit {0}) ProgramFault
+formed-from rows i [] = ends-in-command rows
+formed-from rows i (r ∷ rs) = andOther (formed-row rows i r) (formed-from rows (i + 1) rs)
+
+abbrev pub formed : List SyntaxRow → Result (Unit {0}) ProgramFault
+formed rows = formed-from rows 0 rows
+
+-- after screening, its answer, and where it accepted what the rows form
+abbrev pub then-formed : Result (Unit {0}) ScreenFault → List SyntaxRow → Result (Unit {0}) ProgramFault
+then-formed (Err fault) rows = Err (Screening fault)
+then-formed (Ok _) rows = formed rows
+
+-- the children are of these sorts, one by one
+abbrev pub Sorts : List SyntaxRow → List Sort → List ℕ → Type 0
+Sorts rows [] ps = Unit {0}
+Sorts rows (s ∷ ss) [] = ⊥
+Sorts rows (s ∷ ss) (p ∷ ps) = (sort-at rows p ≡ Some s) × Sorts rows ss ps
+
+pub record Formed-row (rows : List SyntaxRow) (row : SyntaxRow) : Type 0 where
+  pub kind : Kind
+  pub known : kind-of (row .kind) ≡ Some kind
+  pub sorts : Sorts rows (children-of kind) (in-order (row .children))
+  pub datum : admitted kind (row .datum) ≡ true
+
+-- the rows are those of a program, if they list a tree
+pub record Well-formed (rows : List SyntaxRow) : Type 0 where
+  pub each : (i : ℕ) (row : SyntaxRow) → nth rows i ≡ Some row → Formed-row rows row
+  pub command : sort-at rows (length rows - 1) ≡ Some Command

@@ -1,0 +1,53 @@
+-- Screened programs and derivations: what holds of one as long as it exists, and what it is to fill a place with one.
+use mathlib.Core.Path.{_≡_}
+use mathlib.Core.Bool.{true}
+use mathlib.Core.List.{List, _++_}
+use Prim.Native.Nat.{ℕ, _≤_}
+use lib.ListN.{length, take}
+use lib.IntN.{pos}
+use Rattle.std.specs.Results.{isOk}
+use Rattle.std.specs.declared.result.Result.{Result}
+use Rattle.std.specs.declared.result.Result.the-variants.{Ok, Err}
+use Rattle.tables.specs.declared.rows.Fields.{Fields}
+use Rattle.tables.specs.declared.rows.SyntaxRow.{SyntaxRow}
+use Rattle.tables.specs.declared.rows.DerivationRow.{DerivationRow}
+use Rattle.tables.specs.declared.screening.ScreenFault.{ScreenFault}
+use Rattle.tables.specs.declared.forming.ProgramFault.{ProgramFault}
+use Rattle.tables.specs.Rows.{syntax-cites, derivation-cites}
+use Rattle.tables.specs.Screening.{screened}
+use Rattle.tables.specs.Trees.{spans-of, Lists, tree}
+use Rattle.tables.specs.Spans.{confirmed, Accepted, Table-law}
+use Rattle.tables.specs.Forming.{formed, then-formed, Well-formed}
+
+abbrev pub no-citations : Fields
+no-citations = record { first = 65535; second = 65535; third = 65535 }
+
+-- the one row of the program that is built in: skip
+abbrev pub skip-row : SyntaxRow
+skip-row = record { kind = 10; children = no-citations; datum = pos 0 }
+
+-- the one row of the derivation that is built in: the rule SKIP at row 0
+abbrev pub skip-rule-row : DerivationRow
+skip-rule-row = record { rule = 10; syntax = 0; premises = no-citations; value = pos 0 }
+
+-- the rows and spans of a screened program, and of a screened derivation
+abbrev pub Lawful-program : List SyntaxRow → List ℕ → Type 0
+Lawful-program rows spans = Accepted syntax-cites 1024 rows spans × (isOk (formed rows) ≡ true)
+
+abbrev pub Lawful-derivation : List DerivationRow → List ℕ → Type 0
+Lawful-derivation rows spans = Accepted derivation-cites 2048 rows spans
+
+-- the answer of filling a place: the spans have to be those that screening writes, and the rows have to form a program
+abbrev pub program-answer : List SyntaxRow → List ℕ → Result (Unit {0}) ProgramFault
+program-answer rows spans = then-formed (confirmed syntax-cites 1024 rows spans) rows
+
+abbrev pub derivation-answer : List DerivationRow → List ℕ → Result (Unit {0}) ScreenFault
+derivation-answer rows spans = confirmed derivation-cites 2048 rows spans
+
+-- What filling a place with a program means. After a screening it gives the screening's answer, and where that accepted,
+-- whether the rows form a program. It accepts exactly the well-formed tables of lawful length that list one tree, with
+-- the sizes of the subtrees at the front of their spans.
+pub record Program-law (rows : List SyntaxRow) (spans : List ℕ) (answer : Result (Unit {0}) ProgramFault) : Type 0 where
+  pub screened-first : (memory : List ℕ) → spans ≡ screened syntax-cites 1024 rows memory .written → answer ≡ then-formed (screened syntax-cites 1024 rows memory .answer) rows
+  pub only : answer ≡ Ok tt → Table-law syntax-cites 1024 rows (take (length rows) spans) × Well-formed rows
+  pub every : (t : Lists syntax-cites rows) → length rows ≤ 1024 → (rest : List ℕ) → spans ≡ spans-of (tree t) ++ rest → Well-formed rows → answer ≡ Ok tt

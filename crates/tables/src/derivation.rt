@@ -1,0 +1,82 @@
+// Derivations: rows of rules with their spans, raw and screened.
+ghost use mathlib.Core.Path.{_≡_};
+ghost use mathlib.Core.List.{[], _∷_};
+ghost use lib.ListN.{length, take};
+ghost use denote.Ref.{now};
+ghost use Rattle.std.specs.Results.{Cases};
+ghost use Rattle.tables.specs.Rows.{derivation-cites};
+ghost use Rattle.tables.specs.Spans.{Table-law, Spans-law};
+ghost use Rattle.tables.specs.Screened.{skip-rule-row, Lawful-derivation, derivation-answer};
+
+use crate::citing::DerivationCiting;
+use crate::rows::DerivationRow;
+use crate::rows::Fields;
+use crate::rows::UNUSED;
+use crate::screening::ScreenFault;
+use crate::screening::confirm;
+
+// A table that may list a derivation, with the spans that a screening wrote for it.
+#[derive(Drop)]
+pub struct RawDerivation<'r, 's> {
+    rows: &'r [DerivationRow],
+    spans: &'s [u16],
+}
+
+impl<'r, 's> RawDerivation<'r, 's> {
+    pub fn new(rows: &'r [DerivationRow], spans: &'s [u16]) -> RawDerivation<'r, 's>
+        ensures rows { λ r. ⌜ now (r .rows) ≡ now (rows .entry) ⌝ }
+        ensures spans { λ r. ⌜ now (r .spans) ≡ now (spans .entry) ⌝ }
+    {
+        RawDerivation { rows, spans }
+    }
+}
+
+// A screened derivation, with the span of each row: a tree of rules, none of which has been checked yet.
+#[derive(Drop)]
+pub struct Derivation<'r, 's> {
+    rows: &'r [DerivationRow],
+    spans: &'s [u16],
+    ghost lawful: { Lawful-derivation (now rows) (now spans) },
+}
+
+static SKIP: [DerivationRow; 1] = [DerivationRow { rule: 10, syntax: 0, premises: Fields { first: UNUSED, second: UNUSED, third: UNUSED }, value: 0 }];
+
+static ONE: [u16; 1] = [1];
+
+impl<'r, 's> Derivation<'r, 's> {
+    // The derivation that is built in: the rule SKIP at syntax row 0.
+    pub fn skip() -> Derivation<'r, 's>
+        ensures rows { λ r. ⌜ now (r .rows) ≡ skip-rule-row ∷ [] ⌝ }
+        ensures spans { λ r. ⌜ now (r .spans) ≡ 1 ∷ [] ⌝ }
+    {
+        Derivation { rows: &SKIP, spans: &ONE }
+    }
+
+    // Takes the table's place if it is screened with these spans; else stays as it was.
+    pub fn fill(&mut self, raw: RawDerivation<'r, 's>) -> Result<(), ScreenFault>
+        ensures answer { λ r. ⌜ r ≡ derivation-answer (now (raw .entry .rows)) (now (raw .entry .spans)) ⌝ }
+        ensures place { λ r. ⌜ Cases r (λ _. (now (now (self .exit) .rows) ≡ now (raw .entry .rows)) × (now (now (self .exit) .spans) ≡ take (length (now (raw .entry .rows))) (now (raw .entry .spans)))) (λ _. now (self .exit) ≡ now (self .entry)) ⌝ }
+        ensures law { λ r. ⌜ Spans-law derivation-cites 2048 (now (raw .entry .rows)) (now (raw .entry .spans)) r ⌝ }
+    {
+        let RawDerivation { rows, spans } = raw;
+        confirm(rows, spans)?;
+        *self = Derivation { rows, spans: &spans[..rows.len()] };
+        Ok(())
+    }
+
+    // The rows: they list one tree.
+    pub fn rows(&self) -> &'r [DerivationRow]
+        ensures same { λ r. ⌜ now r ≡ now (now (self .entry) .rows) ⌝ }
+        ensures law { λ r. ⌜ Table-law derivation-cites 2048 (now r) (now (now (self .entry) .spans)) ⌝ }
+    {
+        self.rows
+    }
+
+    // The span of each row: the sizes of the subtrees.
+    pub fn spans(&self) -> &'s [u16]
+        ensures same { λ r. ⌜ now r ≡ now (now (self .entry) .spans) ⌝ }
+        ensures law { λ r. ⌜ Table-law derivation-cites 2048 (now (now (self .entry) .rows)) (now r) ⌝ }
+    {
+        self.spans
+    }
+}

@@ -1,0 +1,142 @@
+// Whether screened syntax rows form a program: the sorts of children, the data, and a command at the end.
+ghost use mathlib.Core.Path.{_≡_};
+ghost use Prim.Native.Nat.{ℕ, _<_, _≤_};
+ghost use lib.ListN.{length};
+ghost use Rattle.std.specs.Runs.{nth};
+ghost use Rattle.tables.specs.Few.{listed};
+ghost use Rattle.tables.specs.Fields.{in-order};
+ghost use Rattle.tables.specs.Refusals.{program-refusal};
+ghost use Rattle.tables.specs.declared.forming.ProgramFault.the-variants.{Screening};
+ghost use Rattle.tables.specs.Forming.{is-of, sort-at, sorted, formed-row, ends-in-command, formed, same-sort};
+
+use crate::few::Few;
+use crate::kinds::Kind;
+use crate::kinds::Sort;
+use crate::kinds::SortPartialEq;
+use crate::rows::Fields;
+use crate::rows::SyntaxRow;
+use crate::screening::ScreenFault;
+use crate::screening::ScreenFaultDebug;
+use crate::screening::ScreenFaultPartialEq;
+
+#[derive(Clone, Copy, PartialEq, Eq, Debug)]
+pub enum ProgramFault {
+    // the rows do not list a tree
+    Screening(ScreenFault),
+    // a child is not of the sort that the row's kind asks for
+    ChildSort { row: u16 },
+    // a datum that the row's kind does not hold
+    Datum { row: u16 },
+    // the last row is not a command
+    NotCommand { row: u16 },
+}
+
+impl ProgramFault {
+    // The number under which the refusal is published.
+    pub fn number(self) -> u8
+        ensures { λ r. ⌜ r ≡ program-refusal self .number ⌝ }
+    {
+        match self {
+            ProgramFault::Screening(fault) => fault.number(),
+            ProgramFault::ChildSort { row: _ } => 26,
+            ProgramFault::Datum { row: _ } => 27,
+            ProgramFault::NotCommand { row: _ } => 28,
+        }
+    }
+
+    // The row at fault, or 0 where none is.
+    pub fn place(self) -> u16
+        ensures { λ r. ⌜ r ≡ program-refusal self .place ⌝ }
+    {
+        match self {
+            ProgramFault::Screening(fault) => fault.place(),
+            ProgramFault::ChildSort { row } | ProgramFault::Datum { row } | ProgramFault::NotCommand { row } => row,
+        }
+    }
+}
+
+pub impl From<ScreenFault> for ProgramFault as ScreeningFrom {
+    ghost converts = { λ fault made. made ≡ Screening fault };
+
+    fn from(fault: ScreenFault) -> ProgramFault {
+        ProgramFault::Screening(fault)
+    }
+}
+
+// The row of that number, if the table has it.
+fn row_at(rows: &[SyntaxRow], row: usize) -> Option<SyntaxRow>
+    ensures { λ r. ⌜ r ≡ nth (now (rows .entry)) row ⌝ }
+{
+    if row < rows.len() { Some(rows[row]) } else { None }
+}
+
+// The sort of the phrase at a row.
+fn sort_at(rows: &[SyntaxRow], row: usize) -> Option<Sort>
+    ensures { λ r. ⌜ r ≡ sort-at (now (rows .entry)) row ⌝ }
+{
+    let found = row_at(rows, row)?;
+    let kind = Kind::of(found.kind)?;
+    Some(kind.sort())
+}
+
+fn is_of(rows: &[SyntaxRow], row: u16, sort: Sort) -> bool
+    ensures { λ r. ⌜ r ≡ is-of sort (sort-at (now (rows .entry)) row) ⌝ }
+{
+    match sort_at(rows, row as usize) {
+        Some(found) => found == sort,
+        None => false,
+    }
+}
+
+// Whether the children are of these sorts, one by one.
+fn are_sorted(rows: &[SyntaxRow], children: Fields, sorts: Few<Sort>) -> bool
+    ensures { λ r. ⌜ r ≡ sorted (now (rows .entry)) (listed sorts) (in-order children) ⌝ }
+{
+    let Fields { first, second, third } = children;
+    match sorts {
+        Few::Zero => true,
+        Few::One(a) => is_of(rows, first, a),
+        Few::Two(a, b) => is_of(rows, first, a) && is_of(rows, second, b),
+        Few::Three(a, b, c) => is_of(rows, first, a) && is_of(rows, second, b) && is_of(rows, third, c),
+    }
+}
+
+// Whether row i stands among the rows as its kind asks.
+fn form_row(rows: &[SyntaxRow], i: u16, row: SyntaxRow) -> Result<(), ProgramFault>
+    ensures { λ r. ⌜ r ≡ formed-row (now (rows .entry)) i row ⌝ }
+{
+    let Some(kind) = Kind::of(row.kind) else {
+        return Err(ProgramFault::ChildSort { row: i });
+    };
+    if !are_sorted(rows, row.children, kind.children()) {
+        return Err(ProgramFault::ChildSort { row: i });
+    }
+    if !kind.admits(row.datum) {
+        return Err(ProgramFault::Datum { row: i });
+    }
+    Ok(())
+}
+
+fn end_in_command(rows: &[SyntaxRow]) -> Result<(), ProgramFault>
+    requires some { ⌜ 0 < length (now rows) ⌝ }
+    requires short { ⌜ length (now rows) < 65536 ⌝ }
+    ensures { λ r. ⌜ r ≡ ends-in-command (now (rows .entry)) ⌝ }
+{
+    let last = (rows.len() - 1) as u16;
+    if !is_of(rows, last, Sort::Command) {
+        return Err(ProgramFault::NotCommand { row: last });
+    }
+    Ok(())
+}
+
+// Whether the rows form a program; a refusal is at the first row that does not stand as its kind asks.
+pub(crate) fn form(rows: &[SyntaxRow]) -> Result<(), ProgramFault>
+    requires some { ⌜ 0 < length (now rows) ⌝ }
+    requires short { ⌜ length (now rows) < 65536 ⌝ }
+    ensures { λ r. ⌜ r ≡ formed (now (rows .entry)) ⌝ }
+{
+    for (i, row) in rows.iter().enumerate() {
+        form_row(rows, i as u16, *row)?;
+    }
+    end_in_command(rows)
+}

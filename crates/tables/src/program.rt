@@ -1,0 +1,98 @@
+// Programs: syntax rows with their spans, raw and screened.
+ghost use mathlib.Core.Path.{_≡_};
+ghost use mathlib.Core.List.{[], _∷_};
+ghost use Prim.Native.Nat.{_≤_};
+ghost use lib.ListN.{length, take};
+ghost use denote.Ref.{now};
+ghost use Rattle.std.specs.Results.{Cases};
+ghost use Rattle.std.specs.Vec.{made};
+ghost use Rattle.tables.specs.Rows.{syntax-cites};
+ghost use Rattle.tables.specs.Spans.{Table-law};
+ghost use Rattle.tables.specs.Forming.{Well-formed};
+ghost use Rattle.tables.specs.Screened.{skip-row, Lawful-program, program-answer, Program-law};
+
+use crate::citing::SyntaxCiting;
+use crate::forming::ProgramFault;
+use crate::forming::ScreeningFrom;
+use crate::forming::form;
+use crate::rows::Fields;
+use crate::rows::SyntaxRow;
+use crate::rows::UNUSED;
+use crate::screening::confirm;
+
+// Whether the rows form a program and the spans are those of its screening.
+fn admit(rows: &[SyntaxRow], spans: &[u16]) -> Result<(), ProgramFault>
+    ensures answer { λ r. ⌜ r ≡ program-answer (now (rows .entry)) (now (spans .entry)) ⌝ }
+    ensures law { λ r. ⌜ Program-law (now (rows .entry)) (now (spans .entry)) r ⌝ }
+    ensures admits { λ r. ⌜ made r (λ _. (length (now (rows .entry)) ≤ length (now (spans .entry))) × Lawful-program (now (rows .entry)) (take (length (now (rows .entry))) (now (spans .entry)))) ⌝ }
+{
+    confirm(rows, spans)?;
+    form(rows)
+}
+
+// A table that may be a program, with the spans that a screening wrote for it.
+#[derive(Drop)]
+pub struct RawProgram<'r, 's> {
+    rows: &'r [SyntaxRow],
+    spans: &'s [u16],
+}
+
+impl<'r, 's> RawProgram<'r, 's> {
+    pub fn new(rows: &'r [SyntaxRow], spans: &'s [u16]) -> RawProgram<'r, 's>
+        ensures rows { λ r. ⌜ now (r .rows) ≡ now (rows .entry) ⌝ }
+        ensures spans { λ r. ⌜ now (r .spans) ≡ now (spans .entry) ⌝ }
+    {
+        RawProgram { rows, spans }
+    }
+}
+
+// A screened program, with the span of each row.
+#[derive(Drop)]
+pub struct Program<'r, 's> {
+    rows: &'r [SyntaxRow],
+    spans: &'s [u16],
+    ghost lawful: { Lawful-program (now rows) (now spans) },
+}
+
+static SKIP: [SyntaxRow; 1] = [SyntaxRow { kind: 10, children: Fields { first: UNUSED, second: UNUSED, third: UNUSED }, datum: 0 }];
+
+static ONE: [u16; 1] = [1];
+
+impl<'r, 's> Program<'r, 's> {
+    // The program that is built in: skip.
+    pub fn skip() -> Program<'r, 's>
+        ensures rows { λ r. ⌜ now (r .rows) ≡ skip-row ∷ [] ⌝ }
+        ensures spans { λ r. ⌜ now (r .spans) ≡ 1 ∷ [] ⌝ }
+    {
+        Program { rows: &SKIP, spans: &ONE }
+    }
+
+    // Takes the table's place if it is a program with the spans of a screening; else stays as it was.
+    pub fn fill(&mut self, raw: RawProgram<'r, 's>) -> Result<(), ProgramFault>
+        ensures answer { λ r. ⌜ r ≡ program-answer (now (raw .entry .rows)) (now (raw .entry .spans)) ⌝ }
+        ensures place { λ r. ⌜ Cases r (λ _. (now (now (self .exit) .rows) ≡ now (raw .entry .rows)) × (now (now (self .exit) .spans) ≡ take (length (now (raw .entry .rows))) (now (raw .entry .spans)))) (λ _. now (self .exit) ≡ now (self .entry)) ⌝ }
+        ensures law { λ r. ⌜ Program-law (now (raw .entry .rows)) (now (raw .entry .spans)) r ⌝ }
+    {
+        let RawProgram { rows, spans } = raw;
+        admit(rows, spans)?;
+        *self = Program { rows, spans: &spans[..rows.len()] };
+        Ok(())
+    }
+
+    // The rows: they list one tree, and form a program.
+    pub fn rows(&self) -> &'r [SyntaxRow]
+        ensures same { λ r. ⌜ now r ≡ now (now (self .entry) .rows) ⌝ }
+        ensures law { λ r. ⌜ Table-law syntax-cites 1024 (now r) (now (now (self .entry) .spans)) ⌝ }
+        ensures formed { λ r. ⌜ Well-formed (now r) ⌝ }
+    {
+        self.rows
+    }
+
+    // The span of each row: the sizes of the subtrees.
+    pub fn spans(&self) -> &'s [u16]
+        ensures same { λ r. ⌜ now r ≡ now (now (self .entry) .spans) ⌝ }
+        ensures law { λ r. ⌜ Table-law syntax-cites 1024 (now (now (self .entry) .rows)) (now r) ⌝ }
+    {
+        self.spans
+    }
+}
