@@ -120,7 +120,7 @@ scan-post cited (plant r c f) more done base b k =
     let i : scan cited (post c ++ (r ∷ (post f ++ more))) done ≡ scan cited (r ∷ (post f ++ more)) (done ++ spans-of c) = scan-post cited c (r ∷ (post f ++ more)) done base b (k .0) in
     let s : span-of (done ++ spans-of c) (roots base c) ≡ Some (size c + 1) = span-of-roots done c base b in
     let j : scan cited (r ∷ (post f ++ more)) (done ++ spans-of c) ≡ scan cited (post f ++ more) ((done ++ spans-of c) ++ (size c + 1) ∷ []) =
-        ap (λ o. with-span (done ++ spans-of c) (next-span o (done ++ spans-of c)) (λ s. scan cited (post f ++ more) ((done ++ spans-of c) ++ s ∷ []))) (k .1) ∙ ap (λ o. with-span (done ++ spans-of c) (or-citation (length (done ++ spans-of c)) o) (λ s. scan cited (post f ++ more) ((done ++ spans-of c) ++ s ∷ []))) s
+    ap (λ o. with-span (done ++ spans-of c) (next-span o (done ++ spans-of c)) (λ s. scan cited (post f ++ more) ((done ++ spans-of c) ++ s ∷ []))) (k .1) ∙ ap (λ o. with-span (done ++ spans-of c) (or-citation (length (done ++ spans-of c)) o) (λ s. scan cited (post f ++ more) ((done ++ spans-of c) ++ s ∷ []))) s
     in
     let n : length ((done ++ spans-of c) ++ (size c + 1) ∷ []) ≡ base + size c + 1 = length-push (done ++ spans-of c) (size c + 1) ∙ omega (arith, length-append done (spans-of c), length-spans c) in
     let m : scan cited (post f ++ more) ((done ++ spans-of c) ++ (size c + 1) ∷ []) ≡ scan cited more (((done ++ spans-of c) ++ (size c + 1) ∷ []) ++ spans-of f) = scan-post cited f more ((done ++ spans-of c) ++ (size c + 1) ∷ []) (base + size c + 1) (sym n) (k .2) in
@@ -155,10 +155,9 @@ split f n q (p ∷ ps) m e =
     let x : m + size (l .below) ≡ p = omega arith in
     let y : m + size (l .below) + 1 ≡ h .0 = omega arith in
     record {
-        earlier = l .earlier;
-        named = plant (l .root) (l .below) (i .named);
-        is = w;
-        at = a;
-        cites = ap (λ k. k ∷ roots (m + size (l .below) + 1) (i .named)) x ∙ ap (λ k. p ∷ roots k (i .named)) y ∙ ap (λ t. p ∷ t) (i .cites)
+      earlier = l .earlier;
+      named = plant (l .root) (l .below) (i .named);
+      is = w;
+      at = a;
+      cites = ap (λ k. k ∷ roots (m + size (l .below) + 1) (i .named)) x ∙ ap (λ k. p ∷ roots k (i .named)) y ∙ ap (λ t. p ∷ t) (i .cites);
     }
-

@@ -14,17 +14,17 @@ use Rattle.std.specs.declared.option.Option.{Option}
 use Rattle.std.specs.declared.option.Option.the-variants.{Some, None}
 use Rattle.std.specs.declared.result.Result.{Result}
 use Rattle.std.specs.declared.result.Result.the-variants.{Ok, Err}
-use Rattle.tables.specs.declared.kinds.Sort.{Sort}
-use Rattle.tables.specs.declared.kinds.Sort.the-variants.{Expression, Test, Command}
-use Rattle.tables.specs.declared.kinds.Kind.{Kind}
-use Rattle.tables.specs.declared.rows.SyntaxRow.{SyntaxRow}
+use Rattle.rows.specs.declared.syntax.Sort.{Sort}
+use Rattle.rows.specs.declared.syntax.Sort.the-variants.{Expression, Test, Command}
+use Rattle.rows.specs.declared.syntax.Kind.{Kind}
+use Rattle.rows.specs.declared.syntax.SyntaxRow.{SyntaxRow}
 use Rattle.tables.specs.declared.screening.ScreenFault.{ScreenFault}
 use Rattle.tables.specs.declared.forming.ProgramFault.{ProgramFault}
 use Rattle.tables.specs.declared.forming.ProgramFault.the-variants.{ChildSort, Datum, NotCommand}
-use Rattle.tables.specs.Fields.{in-order}
-use Rattle.tables.specs.Kinds.{kind-of, children-of, admitted}
+use Rattle.rows.specs.Fields.{in-order}
+use Rattle.rows.specs.Syntax.{kind-of, children-of, admitted}
 use Rattle.tables.specs.Forming.{sort-at, same-sort, is-of, sorted, formed-as, formed-row, ends-in-command, formed-from, formed, then-formed, Sorts, Formed-row, Well-formed}
-use Rattle.tables.specs.Rows.{syntax-cites}
+use Rattle.rows.specs.Citing.{syntax-cites}
 use Rattle.tables.specs.Spans.{Accepted, Spans-law}
 use Rattle.tables.specs.Screened.{Lawful-program, Program-law}
 use Rattle.tables.proofs.Scans.{none-of, not-ok}
@@ -70,11 +70,11 @@ formed-as-is : (rows : List SyntaxRow) (i : ℕ) (row : SyntaxRow) (o : Option K
 formed-as-is rows i row None k e = ok-not-err e
 formed-as-is rows i row (Some kind) k e =
     elim (cases-bool (sorted rows (children-of kind) (in-order (row .children)))) [
-        inl s ↦
-        elim (cases-bool (admitted kind (row .datum))) [
-            inl d ↦ record { kind = kind; known = k; sorts = sorted-sorts rows (children-of kind) (in-order (row .children)) s; datum = d }
-          | inr d ↦ let x : Err (Datum i) ≡ Ok tt = rw (s, d) at e in ok-not-err x
-        ]
+      | inl s ↦
+          elim (cases-bool (admitted kind (row .datum))) [
+            | inl d ↦ record { kind = kind; known = k; sorts = sorted-sorts rows (children-of kind) (in-order (row .children)) s; datum = d }
+            | inr d ↦ let x : Err (Datum i) ≡ Ok tt = rw (s, d) at e in ok-not-err x
+          ]
       | inr s ↦ let x : Err (ChildSort i) ≡ Ok tt = rw s at e in ok-not-err x
     ]
 
@@ -113,7 +113,7 @@ is-formed-from rows i (r ∷ rs) h e =
 command-is : (rows : List SyntaxRow) → ends-in-command rows ≡ Ok tt → sort-at rows (length rows - 1) ≡ Some Command
 command-is rows e =
     elim (cases-bool (is-of Command (sort-at rows (length rows - 1)))) [
-        inl t ↦ is-of-is Command (sort-at rows (length rows - 1)) t
+      | inl t ↦ is-of-is Command (sort-at rows (length rows - 1)) t
       | inr f ↦ let x : Err (NotCommand (length rows - 1)) ≡ Ok tt = rw f at e in ok-not-err x
     ]
 
@@ -133,9 +133,9 @@ and-formed (Err fault) rows e = ok-not-err e
 pub program-law : (rows : List SyntaxRow) (spans : List ℕ) (confirmation : Result (Unit {0}) ScreenFault) → Spans-law syntax-cites 1024 rows spans confirmation → (answer : Result (Unit {0}) ProgramFault) → answer ≡ then-formed confirmation rows → Program-law rows spans answer
 program-law rows spans confirmation law answer e =
     record {
-        screened-first = λ memory h. e ∙ ap (λ a. then-formed a rows) (law .screened-first memory h);
-        only = λ ok. let (a, b) = and-formed confirmation rows (sym e ∙ ok) in (law .only a, formed-well rows b);
-        every = λ t short rest h w. e ∙ ap (λ a. then-formed a rows) (law .every t short rest h) ∙ well-formed rows w
+      screened-first = λ memory h. e ∙ ap (λ a. then-formed a rows) (law .screened-first memory h);
+      only = λ ok. let (a, b) = and-formed confirmation rows (sym e ∙ ok) in (law .only a, formed-well rows b);
+      every = λ t short rest h w. e ∙ ap (λ a. then-formed a rows) (law .every t short rest h) ∙ well-formed rows w;
     }
 
 -- and what is known where it accepts

@@ -46,12 +46,12 @@ rescanned-more cited rows i spans inv r l m e s q h =
     let b : eqb s (getD spans i 0) ≡ true = eq-eqb _ _ h in
     let g : with-span (take i spans) (next-span (cited r) (take i spans)) (λ s. scan cited (drop (i + 1) rows) (take i spans ++ s ∷ [])) ≡ scan cited (drop (i + 1) rows) (take i spans ++ s ∷ []) = rw (← q) refl in
     record {
-        left = sym (at-row cited rows i spans inv r l m e ∙ rw (← q) (rw b refl));
-        scanned = record {
-            left = rw t (sym g ∙ sym (here cited rows spans i spans (inv .scanned) r l e));
-            rest = refl;
-            bounded = rw t (bounded-next (cited r) (take i spans) s (inv .scanned .bounded) (sym q))
-        }
+      left = sym (at-row cited rows i spans inv r l m e ∙ rw (← q) (rw b refl));
+      scanned = record {
+        left = rw t (sym g ∙ sym (here cited rows spans i spans (inv .scanned) r l e));
+        rest = refl;
+        bounded = rw t (bounded-next (cited r) (take i spans) s (inv .scanned .bounded) (sym q));
+      };
     }
 
 -- the rest of the memory, cut off
@@ -60,11 +60,10 @@ accepted-cut cited limit rows spans a b d e =
     let n : length (take (length rows) spans) ≡ length rows = length-take-le _ _ d in
     let room : room-for limit (length rows) (length (take (length rows) spans)) ≡ Ok tt = is-room limit (length rows) _ a b (omega arith) in
     let s : screened cited limit rows (take (length rows) spans) ≡ over (scan cited rows []) (take (length rows) spans) = rw room refl in
-    let t = s ∙ ap (λ x. over x (take (length rows) spans)) e in
-    (
-        ap (λ x. isOk (x .answer)) t,
-        ap (λ x. x .written) t ∙ ap (λ x. take (length rows) spans ++ x) (drop-all _ (take (length rows) spans) (omega arith)) ∙ append-nil _,
-        n
+    let t = s ∙ ap (λ x. over x (take (length rows) spans)) e in (
+      ap (λ x. isOk (x .answer)) t,
+      ap (λ x. x .written) t ∙ ap (λ x. take (length rows) spans ++ x) (drop-all _ (take (length rows) spans) (omega arith)) ∙ append-nil _,
+      n,
     )
 
 pub is-ok : {E : Type 0} (r : Result (Unit {0}) E) → isOk r ≡ true → r ≡ Ok tt
@@ -85,10 +84,10 @@ pub scan-front : {R : Type 0} (cited : R → Option (List ℕ)) (rs : List R) (d
 scan-front cited [] done = ([], sym (append-nil done))
 scan-front cited (r ∷ rs) done =
     elim (cases-result (next-span (cited r) done)) [
-        inl (s, o) ↦
-        let h = scan-front cited rs (done ++ s ∷ []) in
-        let e : scan cited (r ∷ rs) done .written ≡ done ++ (s ∷ h .0) = rw o (h .1 ∙ append-assoc done (s ∷ []) (h .0)) in
-        (s ∷ h .0, e)
+      | inl (s, o) ↦
+          let h = scan-front cited rs (done ++ s ∷ []) in
+          let e : scan cited (r ∷ rs) done .written ≡ done ++ (s ∷ h .0) = rw o (h .1 ∙ append-assoc done (s ∷ []) (h .0)) in
+          (s ∷ h .0, e)
       | inr (fault, o) ↦ let e : scan cited (r ∷ rs) done .written ≡ done ++ [] = rw o (sym (append-nil done)) in ([], e)
     ]
 
@@ -97,14 +96,14 @@ pub rescan-agrees : {R : Type 0} (cited : R → Option (List ℕ)) (rs : List R)
 rescan-agrees cited [] done rest held e = refl
 rescan-agrees cited (r ∷ rs) done rest held e =
     elim (cases-result (next-span (cited r) done)) [
-        inl (s, o) ↦
-        let w : scan cited (r ∷ rs) done ≡ scan cited rs (done ++ s ∷ []) = rw o refl in
-        let h = scan-front cited rs (done ++ s ∷ []) in
-        let k : held ≡ done ++ (s ∷ (h .0 ++ rest)) = e ∙ ap (λ x. x .written ++ rest) w ∙ ap (λ x. x ++ rest) (h .1) ∙ simp append-assoc in
-        let v : getD held (length done) 0 ≡ s = ap (λ x. getD x (length done) 0) k ∙ getD-at done s (h .0 ++ rest) 0 (length done) refl in
-        let b : eqb s s ≡ true = eq-eqb s s refl in
-        let i : rescan cited rs (done ++ s ∷ []) held ≡ scan cited rs (done ++ s ∷ []) .answer = rescan-agrees cited rs (done ++ s ∷ []) rest held (e ∙ ap (λ x. x .written ++ rest) w) in
-        rw (v, o, b) i
+      | inl (s, o) ↦
+          let w : scan cited (r ∷ rs) done ≡ scan cited rs (done ++ s ∷ []) = rw o refl in
+          let h = scan-front cited rs (done ++ s ∷ []) in
+          let k : held ≡ done ++ (s ∷ (h .0 ++ rest)) = e ∙ ap (λ x. x .written ++ rest) w ∙ ap (λ x. x ++ rest) (h .1) ∙ simp append-assoc in
+          let v : getD held (length done) 0 ≡ s = ap (λ x. getD x (length done) 0) k ∙ getD-at done s (h .0 ++ rest) 0 (length done) refl in
+          let b : eqb s s ≡ true = eq-eqb s s refl in
+          let i : rescan cited rs (done ++ s ∷ []) held ≡ scan cited rs (done ++ s ∷ []) .answer = rescan-agrees cited rs (done ++ s ∷ []) rest held (e ∙ ap (λ x. x .written ++ rest) w) in
+          rw (v, o, b) i
       | inr (fault, o) ↦ rw o refl
     ]
 
@@ -113,7 +112,7 @@ pub scan-length : {R : Type 0} (cited : R → Option (List ℕ)) (rs : List R) (
 scan-length cited [] done = omega arith
 scan-length cited (r ∷ rs) done =
     elim (cases-result (next-span (cited r) done)) [
-        inl (s, o) ↦ let h = scan-length cited rs (done ++ s ∷ []) in rw o (omega (arith, length-push done s))
+      | inl (s, o) ↦ let h = scan-length cited rs (done ++ s ∷ []) in rw o (omega (arith, length-push done s))
       | inr (fault, o) ↦ rw o (omega arith)
     ]
 
@@ -121,18 +120,18 @@ scan-length cited (r ∷ rs) done =
 pub screened-confirmed : {R : Type 0} (cited : R → Option (List ℕ)) (limit : ℕ) (rows : List R) (memory spans : List ℕ) → spans ≡ screened cited limit rows memory .written → confirmed cited limit rows spans ≡ screened cited limit rows memory .answer
 screened-confirmed cited limit rows memory spans e =
     elim (cases-result (room-for limit (length rows) (length memory))) [
-        inl (_, room) ↦
-        let fits = room-is limit (length rows) (length memory) room in
-        let s : screened cited limit rows memory ≡ over (scan cited rows []) memory = rw room refl in
-        let w : spans ≡ scan cited rows [] .written ++ drop (length (scan cited rows [] .written)) memory = e ∙ ap (λ x. x .written) s in
-        let l : length (scan cited rows [] .written) ≤ 0 + length rows = scan-length cited rows [] in
-        let n : length spans ≡ length memory = ap length w ∙ length-append (scan cited rows [] .written) (drop (length (scan cited rows [] .written)) memory) ∙ omega (arith, length-drop (length (scan cited rows [] .written)) memory) in
-        let c : confirmed cited limit rows spans ≡ rescan cited rows [] spans = rw (n, room) refl in
-        c ∙ rescan-agrees cited rows [] _ spans w ∙ sym (ap (λ x. x .answer) s)
+      | inl (_, room) ↦
+          let fits = room-is limit (length rows) (length memory) room in
+          let s : screened cited limit rows memory ≡ over (scan cited rows []) memory = rw room refl in
+          let w : spans ≡ scan cited rows [] .written ++ drop (length (scan cited rows [] .written)) memory = e ∙ ap (λ x. x .written) s in
+          let l : length (scan cited rows [] .written) ≤ 0 + length rows = scan-length cited rows [] in
+          let n : length spans ≡ length memory = ap length w ∙ length-append (scan cited rows [] .written) (drop (length (scan cited rows [] .written)) memory) ∙ omega (arith, length-drop (length (scan cited rows [] .written)) memory) in
+          let c : confirmed cited limit rows spans ≡ rescan cited rows [] spans = rw (n, room) refl in
+          c ∙ rescan-agrees cited rows [] _ spans w ∙ sym (ap (λ x. x .answer) s)
       | inr (fault, room) ↦
-        let w : spans ≡ memory = e ∙ rw room refl in
-        let c : confirmed cited limit rows memory ≡ Err fault = rw room refl in
-        ap (confirmed cited limit rows) w ∙ c ∙ sym (rw room refl)
+          let w : spans ≡ memory = e ∙ rw room refl in
+          let c : confirmed cited limit rows memory ≡ Err fault = rw room refl in
+          ap (confirmed cited limit rows) w ∙ c ∙ sym (rw room refl)
     ]
 
 -- what is known of a table that is accepted
@@ -142,10 +141,10 @@ table-law cited limit rows spans a =
     let ok = is-ok (screened cited limit rows spans .answer) (a .0) in
     let (t, short, _) = h .only ok in
     record {
-        short = short;
-        lists = t;
-        sizes = sym (a .1) ∙ h .sizes ok t ∙ ap (λ x. spans-of (tree t) ++ x) (drop-all (length rows) spans (omega arith)) ∙ append-nil _;
-        one = λ u. h .one u t
+      short = short;
+      lists = t;
+      sizes = sym (a .1) ∙ h .sizes ok t ∙ ap (λ x. spans-of (tree t) ++ x) (drop-all (length rows) spans (omega arith)) ∙ append-nil _;
+      one = λ u. h .one u t;
     }
 
 -- what lists a tree, with its sizes at the front of the spans, is confirmed
@@ -161,9 +160,9 @@ tree-confirmed cited limit rows held t short rest e =
 pub spans-law : {R : Type 0} (cited : R → Option (List ℕ)) (limit : ℕ) (rows : List R) (held : List ℕ) (answer : Result (Unit {0}) ScreenFault) → answer ≡ confirmed cited limit rows held → made answer (λ _. Accepted cited limit rows (take (length rows) held)) → Spans-law cited limit rows held answer
 spans-law cited limit rows held answer e a =
     record {
-        screened-first = λ memory h. e ∙ screened-confirmed cited limit rows memory held h;
-        only = λ ok. table-law cited limit rows (take (length rows) held) (made-at-ok _ ok a);
-        every = λ t short rest h. e ∙ tree-confirmed cited limit rows held t short rest h
+      screened-first = λ memory h. e ∙ screened-confirmed cited limit rows memory held h;
+      only = λ ok. table-law cited limit rows (take (length rows) held) (made-at-ok _ ok a);
+      every = λ t short rest h. e ∙ tree-confirmed cited limit rows held t short rest h;
     }
 
 -- where the loop came to its end
@@ -177,6 +176,6 @@ confirmed-end cited limit rows i spans inv n fits room r e =
     let t : rescan cited rows [] spans ≡ whole (take i spans) = sym (inv .left) ∙ at-drop-all (λ rs. rescan cited rs (take i spans) spans) rows i (omega arith) in
     let c : confirmed cited limit rows spans ≡ rescan cited rows [] spans = rw (← room) refl in
     record {
-        answer = e ∙ ap (λ k. whole (take k spans)) (sym n) ∙ sym t ∙ sym c;
-        accepted = accepted-made cited limit rows spans fits (s ∙ ap (λ k. record { answer = whole (take k spans); written = take k spans }) n) r e
+      answer = e ∙ ap (λ k. whole (take k spans)) (sym n) ∙ sym t ∙ sym c;
+      accepted = accepted-made cited limit rows spans fits (s ∙ ap (λ k. record { answer = whole (take k spans); written = take k spans }) n) r e;
     }

@@ -44,10 +44,10 @@ more-by cited f k r s t =
     let u : size h + 1 ≡ s = omega arith in
     let b : roots (0 + size g) h ≡ p .cites = ap (λ x. roots x h) (omega arith) ∙ d .cites in
     record {
-        forest = join g (plant r h bare);
-        listing = post-join g (plant r h bare) ∙ sym (append-assoc (post g) (post h) (r ∷ [])) ∙ ap (λ x. x ++ r ∷ []) (sym (ap post (d .is) ∙ post-join g h));
-        citing = join-cites cited 0 g (plant r h bare) (j .0) (j .1, p .known ∙ ap Some (sym b), tt);
-        sized-as = spans-join g (plant r h bare) ∙ sym (append-assoc (spans-of g) (spans-of h) ((size h + 1) ∷ [])) ∙ ap (λ x. x ++ (size h + 1) ∷ []) (sym sp) ∙ ap (λ x. spans-of f ++ x ∷ []) u
+      forest = join g (plant r h bare);
+      listing = post-join g (plant r h bare) ∙ sym (append-assoc (post g) (post h) (r ∷ [])) ∙ ap (λ x. x ++ r ∷ []) (sym (ap post (d .is) ∙ post-join g h));
+      citing = join-cites cited 0 g (plant r h bare) (j .0) (j .1, p .known ∙ ap Some (sym b), tt);
+      sized-as = spans-join g (plant r h bare) ∙ sym (append-assoc (spans-of g) (spans-of h) ((size h + 1) ∷ [])) ∙ ap (λ x. x ++ (size h + 1) ∷ []) (sym sp) ∙ ap (λ x. spans-of f ++ x ∷ []) u;
     }
 
 -- the scan came to the end of the rows
@@ -83,9 +83,9 @@ onward cited r rs f s m o p =
     let e : scan cited (r ∷ rs) (spans-of f) ≡ scan cited rs (spans-of (m .forest)) = ap (λ x. with-span (spans-of f) x (λ s. scan cited rs (spans-of f ++ s ∷ []))) o ∙ ap (scan cited rs) (sym (m .sized-as)) in
     let l : (xs : List _) → post (m .forest) ++ xs ≡ post f ++ (r ∷ xs) = λ xs. ap (λ x. x ++ xs) (m .listing) ∙ append-assoc (post f) (r ∷ []) xs in
     elim p [
-        inl t ↦ inl (record { forest = t .forest; listing = t .listing ∙ l rs; citing = t .citing; ends = e ∙ t .ends })
+      | inl t ↦ inl (record { forest = t .forest; listing = t .listing ∙ l rs; citing = t .citing; ends = e ∙ t .ends })
       | inr h ↦
-        inr (record {
+          inr (record {
             forest = h .forest;
             passed = r ∷ h .passed;
             row = h .row;
@@ -95,17 +95,17 @@ onward cited r rs f s m o p =
             citing = h .citing;
             fault = h .fault;
             refused = h .refused;
-            ends = e ∙ h .ends
-        })
+            ends = e ∙ h .ends;
+          })
     ]
 
 pub progress : {R : Type 0} (cited : R → Option (List ℕ)) (rs : List R) (f : Forest R) → Cites cited 0 f → Progress cited rs f
 progress cited [] f k = inl (record { forest = f; listing = sym (append-nil (post f)); citing = k; ends = refl })
 progress cited (r ∷ rs) f k =
     elim (cases-result (next-span (cited r) (spans-of f))) [
-        inl (s, o) ↦ let m = more-by cited f k r s o in onward cited r rs f s m o (progress cited rs (m .forest) (m .citing))
+      | inl (s, o) ↦ let m = more-by cited f k r s o in onward cited r rs f s m o (progress cited rs (m .forest) (m .citing))
       | inr (fault, o) ↦
-        inr (record {
+          inr (record {
             forest = f;
             passed = [];
             row = r;
@@ -115,22 +115,22 @@ progress cited (r ∷ rs) f k =
             citing = k;
             fault = fault;
             refused = o;
-            ends = ap (λ x. with-span (spans-of f) x (λ s. scan cited rs (spans-of f ++ s ∷ []))) o
-        })
+            ends = ap (λ x. with-span (spans-of f) x (λ s. scan cited rs (spans-of f ++ s ∷ []))) o;
+          })
     ]
 
 -- past the two tests of sizes
 pub room-is : (limit n memory : ℕ) → room-for limit n memory ≡ Ok tt → (0 < n) × (n ≤ limit) × (n ≤ memory)
 room-is limit n memory e =
     elim (cases-bool (eqb n 0 || ltb limit n)) [
-        inl t ↦ let k : Err Size ≡ Ok tt = rw t at e in ok-not-err k
+      | inl t ↦ let k : Err Size ≡ Ok tt = rw t at e in ok-not-err k
       | inr f ↦
-        let parts = or-parts (eqb n 0) (ltb limit n) f in
-        let z : n ≡ 0 → ⊥ = eqb-false n 0 (parts .0) in
-        elim (cases-bool (ltb memory n)) [
-            inl t ↦ let k : Err Memory ≡ Ok tt = rw (f, t) at e in ok-not-err k
-          | inr d ↦ (omega arith, ltb-false _ _ (parts .1), ltb-false _ _ d)
-        ]
+          let parts = or-parts (eqb n 0) (ltb limit n) f in
+          let z : n ≡ 0 → ⊥ = eqb-false n 0 (parts .0) in
+          elim (cases-bool (ltb memory n)) [
+            | inl t ↦ let k : Err Memory ≡ Ok tt = rw (f, t) at e in ok-not-err k
+            | inr d ↦ (omega arith, ltb-false _ _ (parts .1), ltb-false _ _ d)
+          ]
     ]
 
 pub is-room : (limit n memory : ℕ) → 0 < n → n ≤ limit → n ≤ memory → room-for limit n memory ≡ Ok tt
@@ -146,7 +146,7 @@ pub scan-longer : {R : Type 0} (cited : R → Option (List ℕ)) (rs : List R) (
 scan-longer cited [] done = omega arith
 scan-longer cited (r ∷ rs) done =
     elim (cases-result (next-span (cited r) done)) [
-        inl (s, o) ↦ let h = scan-longer cited rs (done ++ s ∷ []) in rw o (omega (arith, length-push done s))
+      | inl (s, o) ↦ let h = scan-longer cited rs (done ++ s ∷ []) in rw o (omega (arith, length-push done s))
       | inr (fault, o) ↦ rw o (omega arith)
     ]
 
@@ -154,7 +154,7 @@ scan-longer cited (r ∷ rs) done =
 pub whole-is : (done : List ℕ) → whole done ≡ Ok tt → getD done (length done - 1) 0 ≡ length done
 whole-is done h =
     elim (cases-bool (eqb (getD done (length done - 1) 0) (length done))) [
-        inl t ↦ eqb-true _ _ t
+      | inl t ↦ eqb-true _ _ t
       | inr f ↦ let k : Err (Divided (length done - 1)) ≡ Ok tt = rw f at h in ok-not-err k
     ]
 
@@ -168,10 +168,10 @@ only-tree cited rows f z p k e =
     let g : l .earlier ≡ bare = size-zero (l .earlier) (omega (arith, length-spans f)) in
     let t : f ≡ plant (l .root) (l .below) bare = l .is ∙ ap (λ x. join x (plant (l .root) (l .below) bare)) g in
     record {
-        root = l .root;
-        below = l .below;
-        listing = sym p ∙ ap post t;
-        citing = subst (λ (x : Forest _). Cites cited 0 x) t k
+      root = l .root;
+      below = l .below;
+      listing = sym p ∙ ap post t;
+      citing = subst (λ (x : Forest _). Cites cited 0 x) t k;
     }
 
 -- the scan of rows that list one tree
@@ -207,13 +207,13 @@ apart f z =
     let l = last-some f z in
     let t = plant (l .root) (l .below) bare in
     record {
-        earlier = l .earlier;
-        root = l .root;
-        below = l .below;
-        is = l .is;
-        posts = ap post (l .is) ∙ post-join (l .earlier) t ∙ sym (append-assoc (post (l .earlier)) (post (l .below)) (l .root ∷ []));
-        spans = ap spans-of (l .is) ∙ spans-join (l .earlier) t ∙ sym (append-assoc (spans-of (l .earlier)) (spans-of (l .below)) ((size (l .below) + 1) ∷ []));
-        sizes = ap size (l .is) ∙ size-join (l .earlier) t ∙ omega arith
+      earlier = l .earlier;
+      root = l .root;
+      below = l .below;
+      is = l .is;
+      posts = ap post (l .is) ∙ post-join (l .earlier) t ∙ sym (append-assoc (post (l .earlier)) (post (l .below)) (l .root ∷ []));
+      spans = ap spans-of (l .is) ∙ spans-join (l .earlier) t ∙ sym (append-assoc (spans-of (l .earlier)) (spans-of (l .below)) ((size (l .below) + 1) ∷ []));
+      sizes = ap size (l .is) ∙ size-join (l .earlier) t ∙ omega arith;
     }
 
 pub head-same : {X : Type 0} (x y : X) → x ∷ [] ≡ y ∷ [] → x ≡ y
@@ -270,7 +270,7 @@ division (Err (Divided i)) = Some i
 pub room-stops : (limit n memory : ℕ) → (stop (room-for limit n memory) ≡ None) × (division (room-for limit n memory) ≡ None)
 room-stops limit n memory =
     elim (cases-bool (eqb n 0 || ltb limit n)) [
-        inl t ↦ (rw t refl, rw t refl)
+      | inl t ↦ (rw t refl, rw t refl)
       | inr f ↦ elim (cases-bool (ltb memory n)) [ inl t ↦ (rw (f, t) refl, rw (f, t) refl) | inr d ↦ (rw (f, d) refl, rw (f, d) refl) ]
     ]
 
@@ -281,7 +281,7 @@ whole-stops done =
 pub whole-divides : (done : List ℕ) (i : ℕ) → division (whole done) ≡ Some i → i ≡ length done - 1
 whole-divides done i e =
     elim (cases-bool (eqb (getD done (length done - 1) 0) (length done))) [
-        inl t ↦ let k : None ≡ Some i = rw t at e in none-of k
+      | inl t ↦ let k : None ≡ Some i = rw t at e in none-of k
       | inr f ↦ let k : Some (length done - 1) ≡ Some i = rw f at e in cc
     ]
 
@@ -301,16 +301,16 @@ stops-at cited rows memory h i e =
     let q : length (h .passed ++ h .row ∷ []) ≡ i + 1 = length-push (h .passed) (h .row) ∙ omega arith in
     let r : rows ≡ (h .passed ++ h .row ∷ []) ++ h .left = h .parts ∙ sym (append-assoc (h .passed) (h .row ∷ []) (h .left)) in
     record {
-        within = rw (h .parts) (omega (arith, length-append (h .passed) (h .row ∷ h .left)));
-        before = record { forest = f; listing = ap (take i) (h .parts) ∙ take-at (h .passed) (h .row ∷ h .left) i p ∙ sym (h .listing); citing = h .citing };
-        sizes = ap (λ n. spans-of f ++ drop n memory) m;
-        no-more = λ t.
-            let g = t .forest in
-            let w : post g ≡ h .passed ++ h .row ∷ [] = sym (t .listing) ∙ ap (take (i + 1)) r ∙ take-at (h .passed ++ h .row ∷ []) (h .left) (i + 1) q in
-            let s : scan cited rows [] ≡ scan cited (h .left) (spans-of g) = ap (λ x. scan cited x []) (r ∙ ap (λ x. x ++ h .left) (sym w)) ∙ scan-post cited g (h .left) [] 0 refl (t .citing) in
-            let l = scan-longer cited (h .left) (spans-of g) in
-            let v : length (scan cited (h .left) (spans-of g) .written) ≡ length (spans-of f) = ap (λ x. length (x .written)) (sym s ∙ h .ends) in
-            omega (arith, length-spans g, length-post g, ap length w)
+      within = rw (h .parts) (omega (arith, length-append (h .passed) (h .row ∷ h .left)));
+      before = record { forest = f; listing = ap (take i) (h .parts) ∙ take-at (h .passed) (h .row ∷ h .left) i p ∙ sym (h .listing); citing = h .citing };
+      sizes = ap (λ n. spans-of f ++ drop n memory) m;
+      no-more = λ t.
+          let g = t .forest in
+          let w : post g ≡ h .passed ++ h .row ∷ [] = sym (t .listing) ∙ ap (take (i + 1)) r ∙ take-at (h .passed ++ h .row ∷ []) (h .left) (i + 1) q in
+          let s : scan cited rows [] ≡ scan cited (h .left) (spans-of g) = ap (λ x. scan cited x []) (r ∙ ap (λ x. x ++ h .left) (sym w)) ∙ scan-post cited g (h .left) [] 0 refl (t .citing) in
+          let l = scan-longer cited (h .left) (spans-of g) in
+          let v : length (scan cited (h .left) (spans-of g) .written) ≡ length (spans-of f) = ap (λ x. length (x .written)) (sym s ∙ h .ends) in
+          omega (arith, length-spans g, length-post g, ap length w);
     }
 
 pub divides-at : {R : Type 0} (cited : R → Option (List ℕ)) (rows : List R) (memory : List ℕ) (t : Through cited rows bare) → 0 < length rows → (i : ℕ) → division (whole (spans-of (t .forest))) ≡ Some i → Divides-at cited rows memory (spans-of (t .forest) ++ drop (length (spans-of (t .forest))) memory) i
@@ -319,13 +319,13 @@ divides-at cited rows memory t z i e =
     let n : length (spans-of f) ≡ length rows = length-spans f ∙ sym (length-post f) ∙ ap length (t .listing) in
     let k : i ≡ length (spans-of f) - 1 = whole-divides (spans-of f) i e in
     record {
-        last = omega arith;
-        trees = record { forest = f; listing = sym (t .listing); citing = t .citing };
-        sizes = ap (λ x. spans-of f ++ drop x memory) n;
-        not-one = λ u.
-            let a : Ok tt ≡ whole (spans-of f) = ap (λ x. x .answer) (sym (tree-scan cited rows u) ∙ t .ends) in
-            let b : None ≡ Some i = ap division a ∙ e in
-            none-of b
+      last = omega arith;
+      trees = record { forest = f; listing = sym (t .listing); citing = t .citing };
+      sizes = ap (λ x. spans-of f ++ drop x memory) n;
+      not-one = λ u.
+          let a : Ok tt ≡ whole (spans-of f) = ap (λ x. x .answer) (sym (tree-scan cited rows u) ∙ t .ends) in
+          let b : None ≡ Some i = ap division a ∙ e in
+          none-of b;
     }
 
 -- a refusal at a row by either number
@@ -338,14 +338,14 @@ pub without-room : {R : Type 0} (cited : R → Option (List ℕ)) (limit : ℕ) 
 without-room cited limit rows memory written fault e =
     let s = room-stops limit (length rows) (length memory) in
     record {
-        only = λ k. ok-not-err k;
-        every = λ t a b.
-            let n : length rows ≡ size (t .below) + (1 + 0) = ap length (t .listing) ∙ length-post (tree t) in
-            sym e ∙ is-room limit (length rows) (length memory) (omega arith) a b;
-        sizes = λ k t. ok-not-err k;
-        one = one-tree cited rows;
-        stops = λ i k. let b : None ≡ Some i = sym (s .0) ∙ ap stop e ∙ either-stop (Err fault) i k in none-of b;
-        divides = λ i k. let b : None ≡ Some i = sym (s .1) ∙ ap division e ∙ ap division k in none-of b
+      only = λ k. ok-not-err k;
+      every = λ t a b.
+          let n : length rows ≡ size (t .below) + (1 + 0) = ap length (t .listing) ∙ length-post (tree t) in
+          sym e ∙ is-room limit (length rows) (length memory) (omega arith) a b;
+      sizes = λ k t. ok-not-err k;
+      one = one-tree cited rows;
+      stops = λ i k. let b : None ≡ Some i = sym (s .0) ∙ ap stop e ∙ either-stop (Err fault) i k in none-of b;
+      divides = λ i k. let b : None ≡ Some i = sym (s .1) ∙ ap division e ∙ ap division k in none-of b;
     }
 
 -- where the scan came through
@@ -355,24 +355,24 @@ came-through cited limit rows memory room t =
     let f = t .forest in
     let n : length (spans-of f) ≡ length rows = length-spans f ∙ sym (length-post f) ∙ ap length (t .listing) in
     record {
-        only = λ e. (only-tree cited rows f (r .0) (t .listing) (t .citing) e, r .1, r .2);
-        every = λ u a b. ap (λ x. x .answer) (sym (t .ends) ∙ tree-scan cited rows u);
-        sizes = λ e u. ap (λ x. x ++ drop (length (spans-of f)) memory) (ap (λ x. x .written) (sym (t .ends) ∙ tree-scan cited rows u)) ∙ ap (λ x. spans-of (tree u) ++ drop x memory) n;
-        one = one-tree cited rows;
-        stops = λ i k. let b : None ≡ Some i = sym (whole-stops (spans-of f)) ∙ either-stop (whole (spans-of f)) i k in none-of b;
-        divides = λ i k. divides-at cited rows memory t (r .0) i (ap division k)
+      only = λ e. (only-tree cited rows f (r .0) (t .listing) (t .citing) e, r .1, r .2);
+      every = λ u a b. ap (λ x. x .answer) (sym (t .ends) ∙ tree-scan cited rows u);
+      sizes = λ e u. ap (λ x. x ++ drop (length (spans-of f)) memory) (ap (λ x. x .written) (sym (t .ends) ∙ tree-scan cited rows u)) ∙ ap (λ x. spans-of (tree u) ++ drop x memory) n;
+      one = one-tree cited rows;
+      stops = λ i k. let b : None ≡ Some i = sym (whole-stops (spans-of f)) ∙ either-stop (whole (spans-of f)) i k in none-of b;
+      divides = λ i k. divides-at cited rows memory t (r .0) i (ap division k);
     }
 
 -- where it stopped at a row
 pub came-halfway : {R : Type 0} (cited : R → Option (List ℕ)) (limit : ℕ) (rows : List R) (memory : List ℕ) (h : Halfway cited rows bare) → Screening-law cited limit rows memory (Err (h .fault)) (spans-of (h .forest) ++ drop (length (spans-of (h .forest))) memory)
 came-halfway cited limit rows memory h =
     record {
-        only = λ e. ok-not-err e;
-        every = λ u a b. ap (λ x. x .answer) (sym (h .ends) ∙ tree-scan cited rows u);
-        sizes = λ e u. ok-not-err e;
-        one = one-tree cited rows;
-        stops = λ i k. stops-at cited rows memory h i (either-stop (Err (h .fault)) i k);
-        divides = λ i k. let b : None ≡ Some i = sym (next-stops (cited (h .row)) (spans-of (h .forest)) (h .fault) (h .refused) .1) ∙ ap division k in none-of b
+      only = λ e. ok-not-err e;
+      every = λ u a b. ap (λ x. x .answer) (sym (h .ends) ∙ tree-scan cited rows u);
+      sizes = λ e u. ok-not-err e;
+      one = one-tree cited rows;
+      stops = λ i k. stops-at cited rows memory h i (either-stop (Err (h .fault)) i k);
+      divides = λ i k. let b : None ≡ Some i = sym (next-stops (cited (h .row)) (spans-of (h .forest)) (h .fault) (h .refused) .1) ∙ ap division k in none-of b;
     }
 
 -- the law at a result that is that of the definition
@@ -382,15 +382,15 @@ law-at cited limit rows memory s t e h = subst (λ (x : Screened). Screening-law
 pub screening-law : {R : Type 0} (cited : R → Option (List ℕ)) (limit : ℕ) (rows : List R) (memory : List ℕ) → Screening-law cited limit rows memory (screened cited limit rows memory .answer) (screened cited limit rows memory .written)
 screening-law cited limit rows memory =
     elim (cases-result (room-for limit (length rows) (length memory))) [
-        inl (_, room) ↦
-        let s : screened cited limit rows memory ≡ over (scan cited rows []) memory = rw room refl in
-        elim (progress cited rows bare tt) [
-            inl t ↦ law-at cited limit rows memory _ _ (s ∙ ap (λ x. over x memory) (t .ends)) (came-through cited limit rows memory room t)
-          | inr h ↦ law-at cited limit rows memory _ _ (s ∙ ap (λ x. over x memory) (h .ends)) (came-halfway cited limit rows memory h)
-        ]
+      | inl (_, room) ↦
+          let s : screened cited limit rows memory ≡ over (scan cited rows []) memory = rw room refl in
+          elim (progress cited rows bare tt) [
+            | inl t ↦ law-at cited limit rows memory _ _ (s ∙ ap (λ x. over x memory) (t .ends)) (came-through cited limit rows memory room t)
+            | inr h ↦ law-at cited limit rows memory _ _ (s ∙ ap (λ x. over x memory) (h .ends)) (came-halfway cited limit rows memory h)
+          ]
       | inr (fault, room) ↦
-        let s : screened cited limit rows memory ≡ record { answer = Err fault; written = memory } = rw room refl in
-        law-at cited limit rows memory _ _ s (without-room cited limit rows memory memory fault room)
+          let s : screened cited limit rows memory ≡ record { answer = Err fault; written = memory } = rw room refl in
+          law-at cited limit rows memory _ _ s (without-room cited limit rows memory memory fault room)
     ]
 
 -- what a call answers and leaves has the law, where both are those of the definition

@@ -28,7 +28,7 @@ pub before-is : (done : List ℕ) (p : ℕ) (o : Option ℕ) (m : ℕ) → befor
 before-is done p None m e = none-of e
 before-is done p (Some n) m e =
     elim (cases-bool (eqb (p + 1) n)) [
-        inl t ↦ let e′ : Some (n - getD done p 0) ≡ Some m = rw t at e in (n, refl, eqb-true _ _ t, cc)
+      | inl t ↦ let e′ : Some (n - getD done p 0) ≡ Some m = rw t at e in (n, refl, eqb-true _ _ t, cc)
       | inr f ↦ let e′ : None ≡ Some m = rw f at e in none-of e′
     ]
 
@@ -69,7 +69,7 @@ span-bound c done s b e =
 pub bounded-more : (done : List ℕ) (s : ℕ) → Bounded done → s ≤ length done + 1 → Bounded (done ++ s ∷ [])
 bounded-more done s b h k l =
     elim (cases-lt k (length done)) [
-        inl lt ↦ rw (getD-append-left done (s ∷ []) 0 k lt) (b k lt)
+      | inl lt ↦ rw (getD-append-left done (s ∷ []) 0 k lt) (b k lt)
       | inr ge ↦ let e : length done ≡ k = omega (arith, length-push done s) in rw (getD-push done s 0 k e) (omega arith)
     ]
 
@@ -98,9 +98,9 @@ scanned-more cited rows memory i spans inv r l m e s t =
     let g : with-span (take i spans) (next-span (cited r) (take i spans)) (λ s. scan cited (drop (i + 1) rows) (take i spans ++ s ∷ [])) ≡ scan cited (drop (i + 1) rows) (take i spans ++ s ∷ []) = rw (← t) refl in
     let h : take (i + 1) (set spans i s) ≡ take i spans ++ s ∷ [] = take-more-set spans i s m in
     record {
-        left = rw h (sym g ∙ sym f);
-        rest = drop-set-lt (i + 1) spans i s (omega arith) ∙ sym (drop-drop 1 i spans) ∙ ap (drop 1) (inv .rest) ∙ drop-drop 1 i memory;
-        bounded = rw h (bounded-next (cited r) (take i spans) s (inv .bounded) (sym t))
+      left = rw h (sym g ∙ sym f);
+      rest = drop-set-lt (i + 1) spans i s (omega arith) ∙ sym (drop-drop 1 i spans) ∙ ap (drop 1) (inv .rest) ∙ drop-drop 1 i memory;
+      bounded = rw h (bounded-next (cited r) (take i spans) s (inv .bounded) (sym t));
     }
 
 -- where the loop stops: the answer, and what the memory then holds

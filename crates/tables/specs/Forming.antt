@@ -11,15 +11,15 @@ use Rattle.std.specs.declared.option.Option.{Option}
 use Rattle.std.specs.declared.option.Option.the-variants.{Some, None}
 use Rattle.std.specs.declared.result.Result.{Result}
 use Rattle.std.specs.declared.result.Result.the-variants.{Ok, Err}
-use Rattle.tables.specs.declared.kinds.Sort.{Sort}
-use Rattle.tables.specs.declared.kinds.Sort.the-variants.{Expression, Test, Command}
-use Rattle.tables.specs.declared.kinds.Kind.{Kind}
-use Rattle.tables.specs.declared.rows.SyntaxRow.{SyntaxRow}
+use Rattle.rows.specs.declared.syntax.Sort.{Sort}
+use Rattle.rows.specs.declared.syntax.Sort.the-variants.{Expression, Test, Command}
+use Rattle.rows.specs.declared.syntax.Kind.{Kind}
+use Rattle.rows.specs.declared.syntax.SyntaxRow.{SyntaxRow}
 use Rattle.tables.specs.declared.screening.ScreenFault.{ScreenFault}
 use Rattle.tables.specs.declared.forming.ProgramFault.{ProgramFault}
 use Rattle.tables.specs.declared.forming.ProgramFault.the-variants.{Screening, ChildSort, Datum, NotCommand}
-use Rattle.tables.specs.Fields.{in-order}
-use Rattle.tables.specs.Kinds.{kind-of, sort-of, children-of, admitted}
+use Rattle.rows.specs.Fields.{in-order}
+use Rattle.rows.specs.Syntax.{kind-of, sort-of, children-of, admitted}
 
 abbrev pub kind-sort : Option Kind → Option Sort
 kind-sort None = None

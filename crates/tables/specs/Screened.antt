@@ -8,12 +8,12 @@ use lib.IntN.{pos}
 use Rattle.std.specs.Results.{isOk}
 use Rattle.std.specs.declared.result.Result.{Result}
 use Rattle.std.specs.declared.result.Result.the-variants.{Ok, Err}
-use Rattle.tables.specs.declared.rows.Fields.{Fields}
-use Rattle.tables.specs.declared.rows.SyntaxRow.{SyntaxRow}
-use Rattle.tables.specs.declared.rows.DerivationRow.{DerivationRow}
+use Rattle.rows.specs.declared.fields.Fields.{Fields}
+use Rattle.rows.specs.declared.syntax.SyntaxRow.{SyntaxRow}
+use Rattle.rows.specs.declared.derivation.DerivationRow.{DerivationRow}
 use Rattle.tables.specs.declared.screening.ScreenFault.{ScreenFault}
 use Rattle.tables.specs.declared.forming.ProgramFault.{ProgramFault}
-use Rattle.tables.specs.Rows.{syntax-cites, derivation-cites}
+use Rattle.rows.specs.Citing.{syntax-cites, derivation-cites}
 use Rattle.tables.specs.Screening.{screened}
 use Rattle.tables.specs.Trees.{spans-of, Lists, tree}
 use Rattle.tables.specs.Spans.{confirmed, Accepted, Table-law}

@@ -4,16 +4,15 @@ ghost use mathlib.Core.List.{[], _∷_};
 ghost use lib.ListN.{length, take};
 ghost use denote.Ref.{now};
 ghost use Rattle.std.specs.Results.{Cases};
-ghost use Rattle.tables.specs.Rows.{derivation-cites};
+ghost use Rattle.rows.specs.Citing.{derivation-cites};
 ghost use Rattle.tables.specs.Spans.{Table-law, Spans-law};
 ghost use Rattle.tables.specs.Screened.{skip-rule-row, Lawful-derivation, derivation-answer};
-
-use crate::citing::DerivationCiting;
-use crate::rows::DerivationRow;
-use crate::rows::Fields;
-use crate::rows::UNUSED;
 use crate::screening::ScreenFault;
 use crate::screening::confirm;
+use rows::citing::DerivationCiting;
+use rows::derivation::DerivationRow;
+use rows::fields::Fields;
+use rows::fields::UNUSED;
 
 // A table that may list a derivation, with the spans that a screening wrote for it.
 #[derive(Drop)]
@@ -39,7 +38,16 @@ pub struct Derivation<'r, 's> {
     ghost lawful: { Lawful-derivation (now rows) (now spans) },
 }
 
-static SKIP: [DerivationRow; 1] = [DerivationRow { rule: 10, syntax: 0, premises: Fields { first: UNUSED, second: UNUSED, third: UNUSED }, value: 0 }];
+static SKIP: [DerivationRow; 1] = [DerivationRow {
+    rule: 10,
+    syntax: 0,
+    premises: Fields {
+        first: UNUSED,
+        second: UNUSED,
+        third: UNUSED,
+    },
+    value: 0,
+}];
 
 static ONE: [u16; 1] = [1];
 
@@ -49,7 +57,10 @@ impl<'r, 's> Derivation<'r, 's> {
         ensures rows { λ r. ⌜ now (r .rows) ≡ skip-rule-row ∷ [] ⌝ }
         ensures spans { λ r. ⌜ now (r .spans) ≡ 1 ∷ [] ⌝ }
     {
-        Derivation { rows: &SKIP, spans: &ONE }
+        Derivation {
+            rows: &SKIP,
+            spans: &ONE,
+        }
     }
 
     // Takes the table's place if it is screened with these spans; else stays as it was.
@@ -60,7 +71,10 @@ impl<'r, 's> Derivation<'r, 's> {
     {
         let RawDerivation { rows, spans } = raw;
         confirm(rows, spans)?;
-        *self = Derivation { rows, spans: &spans[..rows.len()] };
+        *self = Derivation {
+            rows,
+            spans: &spans[..rows.len()],
+        };
         Ok(())
     }
 

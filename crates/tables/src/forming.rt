@@ -3,21 +3,20 @@ ghost use mathlib.Core.Path.{_≡_};
 ghost use Prim.Native.Nat.{ℕ, _<_, _≤_};
 ghost use lib.ListN.{length};
 ghost use Rattle.std.specs.Runs.{nth};
-ghost use Rattle.tables.specs.Few.{listed};
-ghost use Rattle.tables.specs.Fields.{in-order};
+ghost use Rattle.rows.specs.Few.{listed};
+ghost use Rattle.rows.specs.Fields.{in-order};
 ghost use Rattle.tables.specs.Refusals.{program-refusal};
 ghost use Rattle.tables.specs.declared.forming.ProgramFault.the-variants.{Screening};
 ghost use Rattle.tables.specs.Forming.{is-of, sort-at, sorted, formed-row, ends-in-command, formed, same-sort};
-
-use crate::few::Few;
-use crate::kinds::Kind;
-use crate::kinds::Sort;
-use crate::kinds::SortPartialEq;
-use crate::rows::Fields;
-use crate::rows::SyntaxRow;
 use crate::screening::ScreenFault;
 use crate::screening::ScreenFaultDebug;
 use crate::screening::ScreenFaultPartialEq;
+use rows::few::Few;
+use rows::fields::Fields;
+use rows::syntax::Kind;
+use rows::syntax::Sort;
+use rows::syntax::SortPartialEq;
+use rows::syntax::SyntaxRow;
 
 #[derive(Clone, Copy, PartialEq, Eq, Debug)]
 pub enum ProgramFault {
@@ -50,7 +49,9 @@ impl ProgramFault {
     {
         match self {
             ProgramFault::Screening(fault) => fault.place(),
-            ProgramFault::ChildSort { row } | ProgramFault::Datum { row } | ProgramFault::NotCommand { row } => row,
+            ProgramFault::ChildSort { row }
+            | ProgramFault::Datum { row }
+            | ProgramFault::NotCommand { row } => row,
         }
     }
 }
@@ -67,7 +68,11 @@ pub impl From<ScreenFault> for ProgramFault as ScreeningFrom {
 fn row_at(rows: &[SyntaxRow], row: usize) -> Option<SyntaxRow>
     ensures { λ r. ⌜ r ≡ nth (now (rows .entry)) row ⌝ }
 {
-    if row < rows.len() { Some(rows[row]) } else { None }
+    if row < rows.len() {
+        Some(rows[row])
+    } else {
+        None
+    }
 }
 
 // The sort of the phrase at a row.
@@ -92,12 +97,18 @@ fn is_of(rows: &[SyntaxRow], row: u16, sort: Sort) -> bool
 fn are_sorted(rows: &[SyntaxRow], children: Fields, sorts: Few<Sort>) -> bool
     ensures { λ r. ⌜ r ≡ sorted (now (rows .entry)) (listed sorts) (in-order children) ⌝ }
 {
-    let Fields { first, second, third } = children;
+    let Fields {
+        first,
+        second,
+        third,
+    } = children;
     match sorts {
         Few::Zero => true,
         Few::One(a) => is_of(rows, first, a),
         Few::Two(a, b) => is_of(rows, first, a) && is_of(rows, second, b),
-        Few::Three(a, b, c) => is_of(rows, first, a) && is_of(rows, second, b) && is_of(rows, third, c),
+        Few::Three(a, b, c) => is_of(rows, first, a)
+            && is_of(rows, second, b)
+            && is_of(rows, third, c),
     }
 }
 

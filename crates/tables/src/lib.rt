@@ -1,10 +1,5 @@
-// Tables whose rows cite earlier rows: programs and derivations, raw and screened.
-pub mod few;
-pub mod kinds;
-pub mod rules;
-pub mod rows;
-pub mod citing;
-pub mod screening;
+// Tables whose rows cite earlier rows: screening, and the programs and derivations that have passed it.
+pub mod derivation;
 pub mod forming;
 pub mod program;
-pub mod derivation;
+pub mod screening;

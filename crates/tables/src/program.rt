@@ -6,19 +6,18 @@ ghost use lib.ListN.{length, take};
 ghost use denote.Ref.{now};
 ghost use Rattle.std.specs.Results.{Cases};
 ghost use Rattle.std.specs.Vec.{made};
-ghost use Rattle.tables.specs.Rows.{syntax-cites};
+ghost use Rattle.rows.specs.Citing.{syntax-cites};
 ghost use Rattle.tables.specs.Spans.{Table-law};
 ghost use Rattle.tables.specs.Forming.{Well-formed};
 ghost use Rattle.tables.specs.Screened.{skip-row, Lawful-program, program-answer, Program-law};
-
-use crate::citing::SyntaxCiting;
 use crate::forming::ProgramFault;
 use crate::forming::ScreeningFrom;
 use crate::forming::form;
-use crate::rows::Fields;
-use crate::rows::SyntaxRow;
-use crate::rows::UNUSED;
 use crate::screening::confirm;
+use rows::citing::SyntaxCiting;
+use rows::fields::Fields;
+use rows::fields::UNUSED;
+use rows::syntax::SyntaxRow;
 
 // Whether the rows form a program and the spans are those of its screening.
 fn admit(rows: &[SyntaxRow], spans: &[u16]) -> Result<(), ProgramFault>
@@ -54,7 +53,15 @@ pub struct Program<'r, 's> {
     ghost lawful: { Lawful-program (now rows) (now spans) },
 }
 
-static SKIP: [SyntaxRow; 1] = [SyntaxRow { kind: 10, children: Fields { first: UNUSED, second: UNUSED, third: UNUSED }, datum: 0 }];
+static SKIP: [SyntaxRow; 1] = [SyntaxRow {
+    kind: 10,
+    children: Fields {
+        first: UNUSED,
+        second: UNUSED,
+        third: UNUSED,
+    },
+    datum: 0,
+}];
 
 static ONE: [u16; 1] = [1];
 
@@ -64,7 +71,10 @@ impl<'r, 's> Program<'r, 's> {
         ensures rows { λ r. ⌜ now (r .rows) ≡ skip-row ∷ [] ⌝ }
         ensures spans { λ r. ⌜ now (r .spans) ≡ 1 ∷ [] ⌝ }
     {
-        Program { rows: &SKIP, spans: &ONE }
+        Program {
+            rows: &SKIP,
+            spans: &ONE,
+        }
     }
 
     // Takes the table's place if it is a program with the spans of a screening; else stays as it was.
@@ -75,7 +85,10 @@ impl<'r, 's> Program<'r, 's> {
     {
         let RawProgram { rows, spans } = raw;
         admit(rows, spans)?;
-        *self = Program { rows, spans: &spans[..rows.len()] };
+        *self = Program {
+            rows,
+            spans: &spans[..rows.len()],
+        };
         Ok(())
     }
 

@@ -6,14 +6,13 @@ ghost use lib.ListN.{length, take};
 ghost use Rattle.std.specs.declared.result.Result.the-variants.{Ok};
 ghost use Rattle.std.specs.declared.option.Option.the-variants.{Some};
 ghost use Rattle.std.specs.Vec.{made};
-ghost use Rattle.tables.specs.Few.{listed};
+ghost use Rattle.rows.specs.Few.{listed};
 ghost use Rattle.tables.specs.Screening.{Bounded, before, laid, next-span, room-for, whole, screened};
 ghost use Rattle.tables.specs.Trees.{Screening-law};
 ghost use Rattle.tables.specs.Refusals.{screen-refusal};
 ghost use Rattle.tables.specs.Spans.{confirmed, Accepted, Spans-law};
-
-use crate::citing::Citing;
-use crate::few::Few;
+use rows::citing::Citing;
+use rows::few::Few;
 
 #[derive(Clone, Copy, PartialEq, Eq, Debug)]
 pub enum ScreenFault {
@@ -49,7 +48,9 @@ impl ScreenFault {
     {
         match self {
             ScreenFault::Size | ScreenFault::Memory => 0,
-            ScreenFault::Unknown { row } | ScreenFault::Citation { row } | ScreenFault::Divided { row } => row,
+            ScreenFault::Unknown { row }
+            | ScreenFault::Citation { row }
+            | ScreenFault::Divided { row } => row,
         }
     }
 }

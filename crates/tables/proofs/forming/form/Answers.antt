@@ -7,7 +7,7 @@ use Rattle.std.proofs.shelf.Lists.{at-drop-more, at-drop-all}
 use Rattle.std.proofs.shelf.Results.{err-from-errBy}
 use Rattle.std.specs.Results.{andOther}
 use Rattle.std.specs.declared.result.Result.{Result}
-use Rattle.tables.specs.declared.rows.SyntaxRow.{SyntaxRow}
+use Rattle.rows.specs.declared.syntax.SyntaxRow.{SyntaxRow}
 use Rattle.tables.specs.declared.forming.ProgramFault.{ProgramFault}
 use Rattle.tables.specs.Forming.{formed-row, formed-from, formed}
 use Rattle.tables.proofs.forming.form.Needs as need

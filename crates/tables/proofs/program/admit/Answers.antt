@@ -18,7 +18,7 @@ pub returns : need.returns
 returns c =
     let k = c .in-Continue-confirm .ensures tt in
     record {
-        answer = c .form .ensures ∙ ap (λ x. then-formed x (c .args .rows .now)) (k .answer);
-        law = program-law _ _ _ (k .law) _ (c .form .ensures);
-        admits = lawful-made _ _ _ (k .fits .2) (k .accepted) (c .form .result) (c .form .ensures)
+      answer = c .form .ensures ∙ ap (λ x. then-formed x (c .args .rows .now)) (k .answer);
+      law = program-law _ _ _ (k .law) _ (c .form .ensures);
+      admits = lawful-made _ _ _ (k .fits .2) (k .accepted) (c .form .result) (c .form .ensures);
     }

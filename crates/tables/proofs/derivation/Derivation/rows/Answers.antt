@@ -1,5 +1,5 @@
 use mathlib.Core.Path.{refl}
-use Rattle.tables.specs.Rows.{derivation-cites}
+use Rattle.rows.specs.Citing.{derivation-cites}
 use Rattle.tables.proofs.Held.{table-law}
 use Rattle.tables.proofs.derivation.Derivation.rows.Needs as need
 

@@ -1,5 +1,5 @@
 use mathlib.Core.Path.{refl}
-use Rattle.tables.specs.Rows.{syntax-cites}
+use Rattle.rows.specs.Citing.{syntax-cites}
 use Rattle.tables.proofs.Held.{table-law}
 use Rattle.tables.proofs.program.Program.spans.Needs as need
 

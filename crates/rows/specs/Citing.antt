@@ -3,14 +3,14 @@ use mathlib.Core.List.{List}
 use Prim.Native.Nat.{ℕ}
 use Rattle.std.specs.declared.option.Option.{Option}
 use Rattle.std.specs.declared.option.Option.the-variants.{Some, None}
-use Rattle.tables.specs.declared.kinds.Kind.{Kind}
-use Rattle.tables.specs.declared.rules.Rule.{Rule}
-use Rattle.tables.specs.declared.rows.Fields.{Fields}
-use Rattle.tables.specs.declared.rows.SyntaxRow.{SyntaxRow}
-use Rattle.tables.specs.declared.rows.DerivationRow.{DerivationRow}
-use Rattle.tables.specs.Fields.{in-order, used}
-use Rattle.tables.specs.Kinds.{kind-of, children-of}
-use Rattle.tables.specs.Rules.{rule-of, premises-of}
+use Rattle.rows.specs.declared.syntax.Kind.{Kind}
+use Rattle.rows.specs.declared.derivation.Rule.{Rule}
+use Rattle.rows.specs.declared.fields.Fields.{Fields}
+use Rattle.rows.specs.declared.syntax.SyntaxRow.{SyntaxRow}
+use Rattle.rows.specs.declared.derivation.DerivationRow.{DerivationRow}
+use Rattle.rows.specs.Fields.{in-order, used}
+use Rattle.rows.specs.Syntax.{kind-of, children-of}
+use Rattle.rows.specs.Derivation.{rule-of, premises-of}
 
 abbrev pub children-cited : Option Kind → Fields → Option (List ℕ)
 children-cited None fields = None

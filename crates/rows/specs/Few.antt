@@ -2,8 +2,8 @@
 use mathlib.Core.List.{List, [], _∷_}
 use Rattle.std.specs.declared.option.Option.{Option}
 use Rattle.std.specs.declared.option.Option.the-variants.{Some, None}
-use Rattle.tables.specs.declared.few.Few.{Few}
-use Rattle.tables.specs.declared.few.Few.the-variants.{Zero, One, Two, Three}
+use Rattle.rows.specs.declared.few.Few.{Few}
+use Rattle.rows.specs.declared.few.Few.the-variants.{Zero, One, Two, Three}
 
 abbrev pub listed : {T : Type 0} → Few T → List T
 listed Zero = []

@@ -5,7 +5,7 @@ use Prim.Native.Nat.{ℕ}
 use lib.Dec.{eqb}
 use Rattle.std.specs.declared.option.Option.{Option}
 use Rattle.std.specs.declared.option.Option.the-variants.{Some, None}
-use Rattle.tables.specs.declared.rows.Fields.{Fields}
+use Rattle.rows.specs.declared.fields.Fields.{Fields}
 
 abbrev pub in-order : Fields → List ℕ
 in-order f = f .first ∷ f .second ∷ f .third ∷ []

@@ -4,14 +4,13 @@ ghost use mathlib.Core.List.{List};
 ghost use Prim.Native.Nat.{ℕ, _<_};
 ghost use denote.Ref.{now};
 ghost use Rattle.std.specs.declared.option.Option.{Option};
-ghost use Rattle.tables.specs.Few.{listing};
-ghost use Rattle.tables.specs.Rows.{syntax-cites, derivation-cites};
-
+ghost use Rattle.rows.specs.Few.{listing};
+ghost use Rattle.rows.specs.Citing.{syntax-cites, derivation-cites};
+use crate::derivation::DerivationRow;
+use crate::derivation::Rule;
 use crate::few::Few;
-use crate::kinds::Kind;
-use crate::rows::DerivationRow;
-use crate::rows::SyntaxRow;
-use crate::rules::Rule;
+use crate::syntax::Kind;
+use crate::syntax::SyntaxRow;
 
 pub trait Citing {
     // the length of the longest table

@@ -7,10 +7,10 @@ use lib.Dec.{eqb, ltb}
 use lib.IntN.{ℤ, pos, negsuc}
 use Rattle.std.specs.declared.option.Option.{Option}
 use Rattle.std.specs.declared.option.Option.the-variants.{Some, None}
-use Rattle.tables.specs.declared.kinds.Sort.{Sort}
-use Rattle.tables.specs.declared.kinds.Sort.the-variants.{Expression, Test, Command}
-use Rattle.tables.specs.declared.kinds.Kind.{Kind}
-use Rattle.tables.specs.declared.kinds.Kind.the-variants.{Numeral, Name, Sum, Product, True, False, Less, Not, And, Skip, Assignment, Sequence, If, While}
+use Rattle.rows.specs.declared.syntax.Sort.{Sort}
+use Rattle.rows.specs.declared.syntax.Sort.the-variants.{Expression, Test, Command}
+use Rattle.rows.specs.declared.syntax.Kind.{Kind}
+use Rattle.rows.specs.declared.syntax.Kind.the-variants.{Numeral, Name, Sum, Product, True, False, Less, Not, And, Skip, Assignment, Sequence, If, While}
 
 -- the kind that a code stands for
 abbrev pub kind-of : ℕ → Option Kind

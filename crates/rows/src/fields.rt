@@ -1,14 +1,12 @@
-// Rows as they come, unchecked: any byte may stand for the kind or the rule.
+// The three fields of a row that may cite earlier rows of its table.
 ghost use mathlib.Core.Path.{_≡_};
-ghost use Rattle.tables.specs.Few.{listed, listing};
-ghost use Rattle.tables.specs.Fields.{in-order, used};
-
+ghost use Rattle.rows.specs.Few.{listed, listing};
+ghost use Rattle.rows.specs.Fields.{in-order, used};
 use crate::few::Few;
 
 // What a field holds that its row does not use.
 pub const UNUSED: u16 = 65535;
 
-// The three fields of a row that may cite earlier rows.
 #[derive(Clone, Copy)]
 pub struct Fields {
     pub first: u16,
@@ -21,7 +19,11 @@ impl Fields {
     pub fn cited<T: Copy>(self, parts: Few<T>) -> Option<Few<u16>>
         ensures { λ r. ⌜ listing r ≡ used (listed parts) (in-order self) ⌝ }
     {
-        let Fields { first, second, third } = self;
+        let Fields {
+            first,
+            second,
+            third,
+        } = self;
         let spare = third == UNUSED;
         match parts {
             Few::Zero if first == UNUSED && second == UNUSED && spare => Some(Few::Zero),
@@ -31,21 +33,4 @@ impl Fields {
             _ => None,
         }
     }
-}
-
-// A row of a program: a phrase, its children by their rows, and its numeral or name.
-#[derive(Clone, Copy)]
-pub struct SyntaxRow {
-    pub kind: u8,
-    pub children: Fields,
-    pub datum: i32,
-}
-
-// A row of a derivation: a rule used at a syntax row, its premises by their rows, and the value that it gives.
-#[derive(Clone, Copy)]
-pub struct DerivationRow {
-    pub rule: u8,
-    pub syntax: u16,
-    pub premises: Fields,
-    pub value: i32,
 }

@@ -5,10 +5,10 @@ use Prim.Native.Nat.{ℕ}
 use lib.Dec.{eqb}
 use Rattle.std.specs.declared.option.Option.{Option}
 use Rattle.std.specs.declared.option.Option.the-variants.{Some, None}
-use Rattle.tables.specs.declared.rules.Premise.{Premise}
-use Rattle.tables.specs.declared.rules.Premise.the-variants.{First, Second, Third, Itself}
-use Rattle.tables.specs.declared.rules.Rule.{Rule}
-use Rattle.tables.specs.declared.rules.Rule.the-variants.{Num, Var, Sum, Prod, True, False, Less, Not, And, Skip, Assgn, Seq, IfT, IfF, WhileF, WhileT}
+use Rattle.rows.specs.declared.derivation.Premise.{Premise}
+use Rattle.rows.specs.declared.derivation.Premise.the-variants.{First, Second, Third, Itself}
+use Rattle.rows.specs.declared.derivation.Rule.{Rule}
+use Rattle.rows.specs.declared.derivation.Rule.the-variants.{Num, Var, Sum, Prod, True, False, Less, Not, And, Skip, Assgn, Seq, IfT, IfF, WhileF, WhileT}
 
 -- the rule that a code stands for
 abbrev pub rule-of : ℕ → Option Rule

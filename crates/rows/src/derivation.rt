@@ -1,9 +1,18 @@
-// The rules of large steps: which code each has, and what it has for premises.
+// Derivation rows and their rules: which code each rule has, and what it has for premises.
 ghost use mathlib.Core.Path.{_≡_};
-ghost use Rattle.tables.specs.Few.{listed};
-ghost use Rattle.tables.specs.Rules.{rule-of, premises-of};
-
+ghost use Rattle.rows.specs.Few.{listed};
+ghost use Rattle.rows.specs.Derivation.{rule-of, premises-of};
 use crate::few::Few;
+use crate::fields::Fields;
+
+// A row of a derivation, as it comes, with any byte for its rule: a rule used at a syntax row, its premises by their rows, and the value that it gives.
+#[derive(Clone, Copy)]
+pub struct DerivationRow {
+    pub rule: u8,
+    pub syntax: u16,
+    pub premises: Fields,
+    pub value: i32,
+}
 
 // What a premise derives: a child of the phrase that the rule is about, or that phrase again.
 #[derive(Clone, Copy)]
@@ -67,7 +76,10 @@ impl Rule {
         match self {
             Rule::Num | Rule::Var | Rule::True | Rule::False | Rule::Skip => Few::Zero,
             Rule::Not | Rule::Assgn | Rule::WhileF => Few::One(Premise::First),
-            Rule::Sum | Rule::Prod | Rule::Less | Rule::And | Rule::Seq | Rule::IfT => Few::Two(Premise::First, Premise::Second),
+            Rule::Sum | Rule::Prod | Rule::Less | Rule::And | Rule::Seq | Rule::IfT => Few::Two(
+                Premise::First,
+                Premise::Second,
+            ),
             Rule::IfF => Few::Two(Premise::First, Premise::Third),
             Rule::WhileT => Few::Three(Premise::First, Premise::Second, Premise::Itself),
         }

@@ -1,9 +1,17 @@
-// The kinds of syntax rows: which code each has, what sort of phrase it makes, and what it is made of.
+// Syntax rows and their kinds: which code each kind has, what sort of phrase it makes, and what it is made of.
 ghost use mathlib.Core.Path.{_≡_};
-ghost use Rattle.tables.specs.Few.{listed};
-ghost use Rattle.tables.specs.Kinds.{kind-of, sort-of, children-of, admitted};
-
+ghost use Rattle.rows.specs.Few.{listed};
+ghost use Rattle.rows.specs.Syntax.{kind-of, sort-of, children-of, admitted};
 use crate::few::Few;
+use crate::fields::Fields;
+
+// A row of a program, as it comes, with any byte for its kind: a phrase, its children by their rows, and its numeral or name.
+#[derive(Clone, Copy)]
+pub struct SyntaxRow {
+    pub kind: u8,
+    pub children: Fields,
+    pub datum: i32,
+}
 
 // What a phrase of the language is: an arithmetic expression, a test or a command.
 #[derive(Clone, Copy, PartialEq, Eq)]
@@ -62,7 +70,8 @@ impl Kind {
         match self {
             Kind::Numeral | Kind::Name | Kind::Sum | Kind::Product => Sort::Expression,
             Kind::True | Kind::False | Kind::Less | Kind::Not | Kind::And => Sort::Test,
-            Kind::Skip | Kind::Assignment | Kind::Sequence | Kind::If | Kind::While => Sort::Command,
+            Kind::Skip | Kind::Assignment | Kind::Sequence | Kind::If | Kind::While =>
+                Sort::Command,
         }
     }
 
