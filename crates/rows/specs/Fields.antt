@@ -1,8 +1,9 @@
 -- The three fields of a row that may cite earlier rows.
 use mathlib.Core.Bool.{Bool, true, cond, _&&_}
-use mathlib.Core.List.{List, [], _∷_}
+use mathlib.Core.List.{List, [], _∷_, _++_}
 use Prim.Native.Nat.{ℕ}
 use lib.Dec.{eqb}
+use lib.ListN.{length, drop}
 use Rattle.std.specs.declared.option.Option.{Option}
 use Rattle.std.specs.declared.option.Option.the-variants.{Some, None}
 use Rattle.rows.specs.declared.fields.Fields.{Fields}
@@ -24,3 +25,7 @@ abbrev pub used : {T : Type 0} → List T → List ℕ → Option (List ℕ)
 used [] fs = cond (unused fs) (Some []) None
 used (_ ∷ parts) [] = None
 used (_ ∷ parts) (f ∷ fs) = after f (used parts fs)
+
+-- three fields that begin with these
+abbrev pub padded : List ℕ → List ℕ
+padded fs = fs ++ drop (length fs) (65535 ∷ 65535 ∷ 65535 ∷ [])

@@ -1,7 +1,7 @@
 // The three fields of a row that may cite earlier rows of its table.
 ghost use mathlib.Core.Path.{_≡_};
 ghost use Rattle.rows.specs.Few.{listed, listing};
-ghost use Rattle.rows.specs.Fields.{in-order, used};
+ghost use Rattle.rows.specs.Fields.{in-order, used, padded};
 use crate::few::Few;
 
 // What a field holds that its row does not use.
@@ -15,6 +15,34 @@ pub struct Fields {
 }
 
 impl Fields {
+    // The fields of a row that cites these rows and no more.
+    pub fn citing(cited: Few<u16>) -> Fields
+        ensures { λ r. ⌜ in-order r ≡ padded (listed cited) ⌝ }
+    {
+        match cited {
+            Few::Zero => Fields {
+                first: UNUSED,
+                second: UNUSED,
+                third: UNUSED,
+            },
+            Few::One(a) => Fields {
+                first: a,
+                second: UNUSED,
+                third: UNUSED,
+            },
+            Few::Two(a, b) => Fields {
+                first: a,
+                second: b,
+                third: UNUSED,
+            },
+            Few::Three(a, b, c) => Fields {
+                first: a,
+                second: b,
+                third: c,
+            },
+        }
+    }
+
     // The rows cited by a row that cites one for each of `parts`; none where another field is in use.
     pub fn cited<T: Copy>(self, parts: Few<T>) -> Option<Few<u16>>
         ensures { λ r. ⌜ listing r ≡ used (listed parts) (in-order self) ⌝ }
