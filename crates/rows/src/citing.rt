@@ -12,6 +12,11 @@ use crate::few::Few;
 use crate::syntax::Kind;
 use crate::syntax::SyntaxRow;
 
+// The most rows that a program and a derivation have.
+pub const LONGEST_PROGRAM: usize = 1024;
+
+pub const LONGEST_DERIVATION: usize = 2048;
+
 pub trait Citing {
     // the length of the longest table
     ghost limit: { ℕ };
@@ -34,7 +39,7 @@ pub impl Citing for SyntaxRow as SyntaxCiting {
     ghost cited = { syntax-cites };
 
     fn longest() -> usize {
-        1024
+        LONGEST_PROGRAM
     }
 
     fn citations(&self) -> Option<Few<u16>> {
@@ -49,7 +54,7 @@ pub impl Citing for DerivationRow as DerivationCiting {
     ghost cited = { derivation-cites };
 
     fn longest() -> usize {
-        2048
+        LONGEST_DERIVATION
     }
 
     fn citations(&self) -> Option<Few<u16>> {

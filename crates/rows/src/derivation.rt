@@ -1,6 +1,8 @@
 // Derivation rows and their rules: which code each rule has, and what it has for premises.
 ghost use mathlib.Core.Path.{_≡_};
+ghost use Rattle.std.specs.declared.option.Option.the-variants.{Some};
 ghost use Rattle.rows.specs.Few.{listed};
+ghost use Rattle.rows.specs.Fields.{in-order, padded};
 ghost use Rattle.rows.specs.Derivation.{rule-of, premises-of};
 use crate::few::Few;
 use crate::fields::Fields;
@@ -14,6 +16,23 @@ pub struct DerivationRow {
     pub value: i32,
 }
 
+impl DerivationRow {
+    // The row of this rule at a syntax row, with the premises at these rows.
+    pub fn new(rule: Rule, syntax: u16, premises: Few<u16>, value: i32) -> DerivationRow
+        ensures rule { λ r. ⌜ rule-of (r .rule) ≡ Some rule ⌝ }
+        ensures syntax { λ r. ⌜ r .syntax ≡ syntax ⌝ }
+        ensures premises { λ r. ⌜ in-order (r .premises) ≡ padded (listed premises) ⌝ }
+        ensures value { λ r. ⌜ r .value ≡ value ⌝ }
+    {
+        DerivationRow {
+            rule: rule.code(),
+            syntax,
+            premises: Fields::citing(premises),
+            value,
+        }
+    }
+}
+
 // What a premise derives: a child of the phrase that the rule is about, or that phrase again.
 #[derive(Clone, Copy)]
 pub enum Premise {
@@ -25,22 +44,22 @@ pub enum Premise {
 
 #[derive(Clone, Copy)]
 pub enum Rule {
-    Num,
-    Var,
-    Sum,
-    Prod,
-    True,
-    False,
-    Less,
-    Not,
-    And,
-    Skip,
-    Assgn,
-    Seq,
-    IfT,
-    IfF,
-    WhileF,
-    WhileT,
+    Num = 1,
+    Var = 2,
+    Sum = 3,
+    Prod = 4,
+    True = 5,
+    False = 6,
+    Less = 7,
+    Not = 8,
+    And = 9,
+    Skip = 10,
+    Assgn = 11,
+    Seq = 12,
+    IfT = 13,
+    IfF = 14,
+    WhileF = 15,
+    WhileT = 16,
 }
 
 impl Rule {
@@ -67,6 +86,13 @@ impl Rule {
             16 => Some(Rule::WhileT),
             _ => None,
         }
+    }
+
+    // The code that stands for this rule.
+    pub fn code(self) -> u8
+        ensures { λ r. ⌜ rule-of r ≡ Some self ⌝ }
+    {
+        self as u8
     }
 
     // The premises, first to last.

@@ -1,6 +1,8 @@
 // Syntax rows and their kinds: which code each kind has, what sort of phrase it makes, and what it is made of.
 ghost use mathlib.Core.Path.{_≡_};
+ghost use Rattle.std.specs.declared.option.Option.the-variants.{Some};
 ghost use Rattle.rows.specs.Few.{listed};
+ghost use Rattle.rows.specs.Fields.{in-order, padded};
 ghost use Rattle.rows.specs.Syntax.{kind-of, sort-of, children-of, admitted};
 use crate::few::Few;
 use crate::fields::Fields;
@@ -13,6 +15,21 @@ pub struct SyntaxRow {
     pub datum: i32,
 }
 
+impl SyntaxRow {
+    // The row of a phrase of this kind, over the phrases at these rows.
+    pub fn new(kind: Kind, children: Few<u16>, datum: i32) -> SyntaxRow
+        ensures kind { λ r. ⌜ kind-of (r .kind) ≡ Some kind ⌝ }
+        ensures children { λ r. ⌜ in-order (r .children) ≡ padded (listed children) ⌝ }
+        ensures datum { λ r. ⌜ r .datum ≡ datum ⌝ }
+    {
+        SyntaxRow {
+            kind: kind.code(),
+            children: Fields::citing(children),
+            datum,
+        }
+    }
+}
+
 // What a phrase of the language is: an arithmetic expression, a test or a command.
 #[derive(Clone, Copy, PartialEq, Eq)]
 pub enum Sort {
@@ -23,20 +40,20 @@ pub enum Sort {
 
 #[derive(Clone, Copy)]
 pub enum Kind {
-    Numeral,
-    Name,
-    Sum,
-    Product,
-    True,
-    False,
-    Less,
-    Not,
-    And,
-    Skip,
-    Assignment,
-    Sequence,
-    If,
-    While,
+    Numeral = 1,
+    Name = 2,
+    Sum = 3,
+    Product = 4,
+    True = 5,
+    False = 6,
+    Less = 7,
+    Not = 8,
+    And = 9,
+    Skip = 10,
+    Assignment = 11,
+    Sequence = 12,
+    If = 13,
+    While = 14,
 }
 
 impl Kind {
@@ -61,6 +78,13 @@ impl Kind {
             14 => Some(Kind::While),
             _ => None,
         }
+    }
+
+    // The code that stands for this kind.
+    pub fn code(self) -> u8
+        ensures { λ r. ⌜ kind-of r ≡ Some self ⌝ }
+    {
+        self as u8
     }
 
     // The sort of the phrases of this kind.

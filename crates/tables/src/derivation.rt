@@ -69,7 +69,8 @@ impl<'r, 's> Derivation<'r, 's> {
         ensures place { λ r. ⌜ Cases r (λ _. (now (now (self .exit) .rows) ≡ now (raw .entry .rows)) × (now (now (self .exit) .spans) ≡ take (length (now (raw .entry .rows))) (now (raw .entry .spans)))) (λ _. now (self .exit) ≡ now (self .entry)) ⌝ }
         ensures law { λ r. ⌜ Spans-law derivation-cites 2048 (now (raw .entry .rows)) (now (raw .entry .spans)) r ⌝ }
     {
-        let RawDerivation { rows, spans } = raw;
+        let rows = raw.rows;
+        let spans = raw.spans;
         confirm(rows, spans)?;
         *self = Derivation {
             rows,

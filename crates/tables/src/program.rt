@@ -83,7 +83,8 @@ impl<'r, 's> Program<'r, 's> {
         ensures place { λ r. ⌜ Cases r (λ _. (now (now (self .exit) .rows) ≡ now (raw .entry .rows)) × (now (now (self .exit) .spans) ≡ take (length (now (raw .entry .rows))) (now (raw .entry .spans)))) (λ _. now (self .exit) ≡ now (self .entry)) ⌝ }
         ensures law { λ r. ⌜ Program-law (now (raw .entry .rows)) (now (raw .entry .spans)) r ⌝ }
     {
-        let RawProgram { rows, spans } = raw;
+        let rows = raw.rows;
+        let spans = raw.spans;
         admit(rows, spans)?;
         *self = Program {
             rows,
