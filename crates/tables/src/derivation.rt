@@ -79,11 +79,18 @@ impl<'r, 's> Derivation<'r, 's> {
         Ok(())
     }
 
+    // What is known of a screened derivation. It does nothing.
+    fn known(&self)
+        ensures { λ _. ⌜ Table-law derivation-cites 2048 (now (now (self .entry) .rows)) (now (now (self .entry) .spans)) ⌝ }
+    {
+    }
+
     // The rows: they list one tree.
     pub fn rows(&self) -> &'r [DerivationRow]
         ensures same { λ r. ⌜ now r ≡ now (now (self .entry) .rows) ⌝ }
         ensures law { λ r. ⌜ Table-law derivation-cites 2048 (now r) (now (now (self .entry) .spans)) ⌝ }
     {
+        self.known();
         self.rows
     }
 
@@ -92,6 +99,7 @@ impl<'r, 's> Derivation<'r, 's> {
         ensures same { λ r. ⌜ now r ≡ now (now (self .entry) .spans) ⌝ }
         ensures law { λ r. ⌜ Table-law derivation-cites 2048 (now (now (self .entry) .rows)) (now r) ⌝ }
     {
+        self.known();
         self.spans
     }
 }

@@ -1,10 +1,9 @@
-use mathlib.Core.Path.{refl}
 use Rattle.rows.specs.Citing.{syntax-cites}
 use Rattle.tables.proofs.Held.{is-ok, table-law}
 use Rattle.tables.proofs.Formed.{formed-well}
-use Rattle.tables.proofs.program.Program.rows.Needs as need
+use Rattle.tables.proofs.program.Program.known.Needs as need
 
 pub returns : need.returns
 returns c =
     let lawful = c .args .self .now .lawful in
-    record { same = refl; law = table-law syntax-cites 1024 _ _ (lawful .0); formed = formed-well _ (is-ok _ (lawful .1)) }
+    record { law = table-law syntax-cites 1024 _ _ (lawful .0); formed = formed-well _ (is-ok _ (lawful .1)) }

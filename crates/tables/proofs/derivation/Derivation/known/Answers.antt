@@ -1,0 +1,6 @@
+use Rattle.rows.specs.Citing.{derivation-cites}
+use Rattle.tables.proofs.Held.{table-law}
+use Rattle.tables.proofs.derivation.Derivation.known.Needs as need
+
+pub returns : need.returns
+returns c = table-law derivation-cites 2048 _ _ (c .args .self .now .lawful)
