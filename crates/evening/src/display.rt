@@ -59,7 +59,7 @@ fn citations(rt: &impl Print, cited: Option<Few<u16>>) -> io::Result<()> {
     }
 }
 
-pub fn program(rt: &impl Print, program: &Program) -> io::Result<()> {
+pub(crate) fn program(rt: &impl Print, program: &Program) -> io::Result<()> {
     println!(rt, "row  kind        children    datum  span")?;
     for (i, (row, span)) in program
         .rows()
@@ -78,7 +78,7 @@ pub fn program(rt: &impl Print, program: &Program) -> io::Result<()> {
     Ok(())
 }
 
-pub fn derivation(rt: &impl Print, derivation: &Derivation) -> io::Result<()> {
+pub(crate) fn derivation(rt: &impl Print, derivation: &Derivation) -> io::Result<()> {
     println!(rt, "row  rule     syntax row  premises    value  span")?;
     for (i, (row, span)) in derivation
         .rows()
@@ -98,6 +98,6 @@ pub fn derivation(rt: &impl Print, derivation: &Derivation) -> io::Result<()> {
     Ok(())
 }
 
-pub fn refused(rt: &impl Print, part: &str, number: u8, place: u16) -> io::Result<()> {
+pub(crate) fn refused(rt: &impl Print, part: &str, number: u8, place: u16) -> io::Result<()> {
     println!(rt, "refused {part} {number} {place}")
 }

@@ -6,7 +6,7 @@ use rows::syntax::Kind;
 use rows::syntax::SyntaxRow;
 
 // while x < 2 do x := 1 + 1
-pub fn program() -> [SyntaxRow; 8] {
+pub(crate) fn program() -> [SyntaxRow; 8] {
     [
         SyntaxRow::new(Kind::Name, Few::Zero, 0),
         SyntaxRow::new(Kind::Numeral, Few::Zero, 2),
@@ -37,11 +37,11 @@ fn derivation_ending(last: Few<u16>) -> [DerivationRow; 12] {
     ]
 }
 
-pub fn derivation() -> [DerivationRow; 12] {
+pub(crate) fn derivation() -> [DerivationRow; 12] {
     derivation_ending(Few::Three(2, 6, 10))
 }
 
 // The loop that never ends and was taken for one that does: its last row is its own third premise.
-pub fn derivation_that_cites_itself() -> [DerivationRow; 12] {
+pub(crate) fn derivation_that_cites_itself() -> [DerivationRow; 12] {
     derivation_ending(Few::Three(2, 6, 11))
 }

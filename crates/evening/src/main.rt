@@ -6,12 +6,12 @@ use rows::citing::DerivationCiting;
 use rows::citing::SyntaxCiting;
 use rows::derivation::DerivationRow;
 use rows::syntax::SyntaxRow;
+use screening::screen;
 use std::io;
 use tables::derivation::Derivation;
 use tables::derivation::RawDerivation;
 use tables::program::Program;
 use tables::program::RawProgram;
-use tables::screening::screen;
 
 fn show_program(rt: &impl Print, rows: &[SyntaxRow], spans: &[u16]) -> io::Result<()> {
     let mut place = Program::skip();

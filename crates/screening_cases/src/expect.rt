@@ -6,26 +6,26 @@ use rows::derivation::Rule;
 use rows::few::Few;
 use rows::syntax::Kind;
 use rows::syntax::SyntaxRow;
+use screening::screen;
 use std::test::*;
 use tables::derivation::Derivation;
 use tables::derivation::RawDerivation;
 use tables::program::Program;
 use tables::program::RawProgram;
-use tables::screening::screen;
 
 // What the span memory holds before a screening.
 const BLANK: u16 = 9;
 
-pub fn phrase(kind: Kind, children: Few<u16>) -> SyntaxRow {
+pub(crate) fn phrase(kind: Kind, children: Few<u16>) -> SyntaxRow {
     SyntaxRow::new(kind, children, 0)
 }
 
-pub fn rule(rule: Rule, premises: Few<u16>) -> DerivationRow {
+pub(crate) fn rule(rule: Rule, premises: Few<u16>) -> DerivationRow {
     DerivationRow::new(rule, 0, premises, 0)
 }
 
 // Fills a place with a program; a refused one must leave the place as it was.
-pub fn fill_program(rows: &[SyntaxRow], spans: &[u16]) -> (u8, u16) {
+pub(crate) fn fill_program(rows: &[SyntaxRow], spans: &[u16]) -> (u8, u16) {
     let mut place = Program::skip();
     match place.fill(RawProgram::new(rows, spans)) {
         Ok(()) => (0, 0),
@@ -33,7 +33,7 @@ pub fn fill_program(rows: &[SyntaxRow], spans: &[u16]) -> (u8, u16) {
     }
 }
 
-pub fn fill_derivation(rows: &[DerivationRow], spans: &[u16]) -> (u8, u16) {
+pub(crate) fn fill_derivation(rows: &[DerivationRow], spans: &[u16]) -> (u8, u16) {
     let mut place = Derivation::skip();
     match place.fill(RawDerivation::new(rows, spans)) {
         Ok(()) => (0, 0),
@@ -41,14 +41,14 @@ pub fn fill_derivation(rows: &[DerivationRow], spans: &[u16]) -> (u8, u16) {
     }
 }
 
-pub fn load_program(rows: &[SyntaxRow], spans: &mut [u16]) -> (u8, u16) {
+pub(crate) fn load_program(rows: &[SyntaxRow], spans: &mut [u16]) -> (u8, u16) {
     match screen(rows, spans) {
         Ok(()) => fill_program(rows, spans),
         Err(fault) => (fault.number(), fault.place()),
     }
 }
 
-pub fn load_derivation(rows: &[DerivationRow], spans: &mut [u16]) -> (u8, u16) {
+pub(crate) fn load_derivation(rows: &[DerivationRow], spans: &mut [u16]) -> (u8, u16) {
     match screen(rows, spans) {
         Ok(()) => fill_derivation(rows, spans),
         Err(fault) => (fault.number(), fault.place()),
@@ -66,13 +66,17 @@ fn holds(memory: &[u16], spans: &[u16]) -> bool {
     true
 }
 
-pub fn program(rows: &[SyntaxRow], answer: (u8, u16), spans: &[u16]) -> Result<(), Fail> {
+pub(crate) fn program(rows: &[SyntaxRow], answer: (u8, u16), spans: &[u16]) -> Result<(), Fail> {
     let mut memory = [BLANK; 8];
     check_eq(load_program(rows, &mut memory), answer)?;
     check(holds(&memory, spans))
 }
 
-pub fn derivation(rows: &[DerivationRow], answer: (u8, u16), spans: &[u16]) -> Result<(), Fail> {
+pub(crate) fn derivation(
+    rows: &[DerivationRow],
+    answer: (u8, u16),
+    spans: &[u16],
+) -> Result<(), Fail> {
     let mut memory = [BLANK; 14];
     check_eq(load_derivation(rows, &mut memory), answer)?;
     check(holds(&memory, spans))

@@ -18,17 +18,17 @@ use Rattle.rows.specs.declared.syntax.Sort.{Sort}
 use Rattle.rows.specs.declared.syntax.Sort.the-variants.{Expression, Test, Command}
 use Rattle.rows.specs.declared.syntax.Kind.{Kind}
 use Rattle.rows.specs.declared.syntax.SyntaxRow.{SyntaxRow}
-use Rattle.tables.specs.declared.screening.ScreenFault.{ScreenFault}
+use Rattle.screening.specs.declared.fault.ScreenFault.{ScreenFault}
 use Rattle.tables.specs.declared.forming.ProgramFault.{ProgramFault}
 use Rattle.tables.specs.declared.forming.ProgramFault.the-variants.{ChildSort, Datum, NotCommand}
 use Rattle.rows.specs.Fields.{in-order}
 use Rattle.rows.specs.Syntax.{kind-of, children-of, admitted}
 use Rattle.tables.specs.Forming.{sort-at, same-sort, is-of, sorted, formed-as, formed-row, ends-in-command, formed-from, formed, then-formed, Sorts, Formed-row, Well-formed}
 use Rattle.rows.specs.Citing.{syntax-cites}
-use Rattle.tables.specs.Spans.{Accepted, Spans-law}
+use Rattle.screening.specs.Spans.{Accepted, Spans-law}
 use Rattle.tables.specs.Screened.{Lawful-program, Program-law}
-use Rattle.tables.proofs.Scans.{none-of, not-ok}
-use Rattle.tables.proofs.Laws.{ok-not-err}
+use Rattle.screening.proofs.Scans.{none-of, not-ok}
+use Rattle.screening.proofs.Laws.{ok-not-err}
 
 same-sort-is : (s t : Sort) → same-sort s t ≡ true → t ≡ s
 same-sort-is Expression Expression e = refl

@@ -1,5 +1,1 @@
-mod Scans
-mod Forests
-mod Laws
-mod Held
 mod Formed

@@ -15,7 +15,7 @@ use Rattle.rows.specs.declared.syntax.Sort.{Sort}
 use Rattle.rows.specs.declared.syntax.Sort.the-variants.{Expression, Test, Command}
 use Rattle.rows.specs.declared.syntax.Kind.{Kind}
 use Rattle.rows.specs.declared.syntax.SyntaxRow.{SyntaxRow}
-use Rattle.tables.specs.declared.screening.ScreenFault.{ScreenFault}
+use Rattle.screening.specs.declared.fault.ScreenFault.{ScreenFault}
 use Rattle.tables.specs.declared.forming.ProgramFault.{ProgramFault}
 use Rattle.tables.specs.declared.forming.ProgramFault.the-variants.{Screening, ChildSort, Datum, NotCommand}
 use Rattle.rows.specs.Fields.{in-order}

@@ -11,12 +11,12 @@ use Rattle.std.specs.declared.result.Result.the-variants.{Ok, Err}
 use Rattle.rows.specs.declared.fields.Fields.{Fields}
 use Rattle.rows.specs.declared.syntax.SyntaxRow.{SyntaxRow}
 use Rattle.rows.specs.declared.derivation.DerivationRow.{DerivationRow}
-use Rattle.tables.specs.declared.screening.ScreenFault.{ScreenFault}
+use Rattle.screening.specs.declared.fault.ScreenFault.{ScreenFault}
 use Rattle.tables.specs.declared.forming.ProgramFault.{ProgramFault}
 use Rattle.rows.specs.Citing.{syntax-cites, derivation-cites}
-use Rattle.tables.specs.Screening.{screened}
-use Rattle.tables.specs.Trees.{spans-of, Lists, tree}
-use Rattle.tables.specs.Spans.{confirmed, Accepted, Table-law}
+use Rattle.screening.specs.Screening.{screened}
+use Rattle.screening.specs.Trees.{spans-of, Lists, tree}
+use Rattle.screening.specs.Spans.{confirmed, Accepted, Table-law}
 use Rattle.tables.specs.Forming.{formed, then-formed, Well-formed}
 
 abbrev pub no-citations : Fields

@@ -5,14 +5,14 @@ ghost use lib.ListN.{length, take};
 ghost use denote.Ref.{now};
 ghost use Rattle.std.specs.Results.{Cases};
 ghost use Rattle.rows.specs.Citing.{derivation-cites};
-ghost use Rattle.tables.specs.Spans.{Table-law, Spans-law};
+ghost use Rattle.screening.specs.Spans.{Table-law, Spans-law};
 ghost use Rattle.tables.specs.Screened.{skip-rule-row, Lawful-derivation, derivation-answer};
-use crate::screening::ScreenFault;
-use crate::screening::confirm;
 use rows::citing::DerivationCiting;
 use rows::derivation::DerivationRow;
 use rows::fields::Fields;
 use rows::fields::UNUSED;
+use screening::confirm;
+use screening::fault::ScreenFault;
 
 // A table that may list a derivation, with the spans that a screening wrote for it.
 #[derive(Drop)]
@@ -82,8 +82,7 @@ impl<'r, 's> Derivation<'r, 's> {
     // What is known of a screened derivation. It does nothing.
     fn known(&self)
         ensures { λ _. ⌜ Table-law derivation-cites 2048 (now (now (self .entry) .rows)) (now (now (self .entry) .spans)) ⌝ }
-    {
-    }
+    {}
 
     // The rows: they list one tree.
     pub fn rows(&self) -> &'r [DerivationRow]

@@ -8,15 +8,15 @@ ghost use Rattle.rows.specs.Fields.{in-order};
 ghost use Rattle.tables.specs.Refusals.{program-refusal};
 ghost use Rattle.tables.specs.declared.forming.ProgramFault.the-variants.{Screening};
 ghost use Rattle.tables.specs.Forming.{is-of, sort-at, sorted, formed-row, ends-in-command, formed, same-sort};
-use crate::screening::ScreenFault;
-use crate::screening::ScreenFaultDebug;
-use crate::screening::ScreenFaultPartialEq;
 use rows::few::Few;
 use rows::fields::Fields;
 use rows::syntax::Kind;
 use rows::syntax::Sort;
 use rows::syntax::SortPartialEq;
 use rows::syntax::SyntaxRow;
+use screening::fault::ScreenFault;
+use screening::fault::ScreenFaultDebug;
+use screening::fault::ScreenFaultPartialEq;
 
 #[derive(Clone, Copy, PartialEq, Eq, Debug)]
 pub enum ProgramFault {

@@ -1,5 +1,4 @@
-// Tables whose rows cite earlier rows: screening, and the programs and derivations that have passed it.
+// Screened tables: programs, whose rows also have to form one, and derivations.
 pub mod derivation;
 pub mod forming;
 pub mod program;
-pub mod screening;

@@ -7,17 +7,17 @@ ghost use denote.Ref.{now};
 ghost use Rattle.std.specs.Results.{Cases};
 ghost use Rattle.std.specs.Vec.{made};
 ghost use Rattle.rows.specs.Citing.{syntax-cites};
-ghost use Rattle.tables.specs.Spans.{Table-law};
+ghost use Rattle.screening.specs.Spans.{Table-law};
 ghost use Rattle.tables.specs.Forming.{Well-formed};
 ghost use Rattle.tables.specs.Screened.{skip-row, Lawful-program, program-answer, Program-law};
 use crate::forming::ProgramFault;
 use crate::forming::ScreeningFrom;
 use crate::forming::form;
-use crate::screening::confirm;
 use rows::citing::SyntaxCiting;
 use rows::fields::Fields;
 use rows::fields::UNUSED;
 use rows::syntax::SyntaxRow;
+use screening::confirm;
 
 // Whether the rows form a program and the spans are those of its screening.
 fn admit(rows: &[SyntaxRow], spans: &[u16]) -> Result<(), ProgramFault>
@@ -97,8 +97,7 @@ impl<'r, 's> Program<'r, 's> {
     fn known(&self)
         ensures law { λ _. ⌜ Table-law syntax-cites 1024 (now (now (self .entry) .rows)) (now (now (self .entry) .spans)) ⌝ }
         ensures formed { λ _. ⌜ Well-formed (now (now (self .entry) .rows)) ⌝ }
-    {
-    }
+    {}
 
     // The rows: they list one tree, and form a program.
     pub fn rows(&self) -> &'r [SyntaxRow]

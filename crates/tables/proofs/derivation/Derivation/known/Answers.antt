@@ -1,5 +1,5 @@
 use Rattle.rows.specs.Citing.{derivation-cites}
-use Rattle.tables.proofs.Held.{table-law}
+use Rattle.screening.proofs.Held.{table-law}
 use Rattle.tables.proofs.derivation.Derivation.known.Needs as need
 
 pub returns : need.returns

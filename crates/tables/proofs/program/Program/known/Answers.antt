@@ -1,5 +1,5 @@
 use Rattle.rows.specs.Citing.{syntax-cites}
-use Rattle.tables.proofs.Held.{is-ok, table-law}
+use Rattle.screening.proofs.Held.{is-ok, table-law}
 use Rattle.tables.proofs.Formed.{formed-well}
 use Rattle.tables.proofs.program.Program.known.Needs as need
 

@@ -11,9 +11,9 @@ use Rattle.std.proofs.shelf.Lists.{length-push, append-assoc, append-nil, lengt
 use Rattle.std.specs.declared.option.Option.{Option}
 use Rattle.std.specs.declared.option.Option.the-variants.{Some, None}
 use Rattle.std.specs.declared.result.Result.the-variants.{Ok, Err}
-use Rattle.tables.specs.Screening.{before, laid, total, if-some, span-of, or-citation, next-span, with-span, scan}
-use Rattle.tables.specs.Trees.{Forest, bare, plant, size, post, spans-of, roots, Cites}
-use Rattle.tables.proofs.Scans.{before-is}
+use Rattle.screening.specs.Screening.{before, laid, total, if-some, span-of, or-citation, next-span, with-span, scan}
+use Rattle.screening.specs.Trees.{Forest, bare, plant, size, post, spans-of, roots, Cites}
+use Rattle.screening.proofs.Scans.{before-is}
 
 abbrev pub join : {R : Type 0} → Forest R → Forest R → Forest R
 join bare h = h

@@ -10,8 +10,8 @@ use Rattle.std.specs.declared.option.Option.{Option}
 use Rattle.std.specs.declared.option.Option.the-variants.{Some, None}
 use Rattle.std.specs.declared.result.Result.{Result}
 use Rattle.std.specs.declared.result.Result.the-variants.{Ok, Err}
-use Rattle.tables.specs.declared.screening.ScreenFault.{ScreenFault}
-use Rattle.tables.specs.declared.screening.ScreenFault.the-variants.{Size, Memory, Unknown, Citation, Divided}
+use Rattle.screening.specs.declared.fault.ScreenFault.{ScreenFault}
+use Rattle.screening.specs.declared.fault.ScreenFault.the-variants.{Size, Memory, Unknown, Citation, Divided}
 
 -- No span passes its row: the tree of row k begins at row 0 or later.
 abbrev pub Bounded : List ℕ → Type 0

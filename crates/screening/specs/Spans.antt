@@ -9,10 +9,10 @@ use Rattle.std.specs.declared.option.Option.{Option}
 use Rattle.std.specs.Results.{isOk, andOther}
 use Rattle.std.specs.declared.result.Result.{Result}
 use Rattle.std.specs.declared.result.Result.the-variants.{Ok, Err}
-use Rattle.tables.specs.declared.screening.ScreenFault.{ScreenFault}
-use Rattle.tables.specs.declared.screening.ScreenFault.the-variants.{Citation}
-use Rattle.tables.specs.Screening.{next-span, whole, room-for, screened}
-use Rattle.tables.specs.Trees.{spans-of, Lists, tree}
+use Rattle.screening.specs.declared.fault.ScreenFault.{ScreenFault}
+use Rattle.screening.specs.declared.fault.ScreenFault.the-variants.{Citation}
+use Rattle.screening.specs.Screening.{next-span, whole, room-for, screened}
+use Rattle.screening.specs.Trees.{spans-of, Lists, tree}
 
 -- goes on where the span that is held is the row's; any other is refused as a citation of that row
 abbrev pub with-held : ℕ → ℕ → Result ℕ ScreenFault → Result (Unit {0}) ScreenFault → Result (Unit {0}) ScreenFault

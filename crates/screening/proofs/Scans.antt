@@ -14,8 +14,8 @@ use Rattle.std.specs.declared.option.Option.the-variants.{Some, None}
 use Rattle.std.specs.Results.{isOk}
 use Rattle.std.specs.declared.result.Result.{Result}
 use Rattle.std.specs.declared.result.Result.the-variants.{Ok, Err}
-use Rattle.tables.specs.declared.screening.ScreenFault.{ScreenFault}
-use Rattle.tables.specs.Screening.{Bounded, before, laid, total, if-some, span-of, or-citation, next-span, Screened, with-span, whole, scan, room-for, over, where-room, screened}
+use Rattle.screening.specs.declared.fault.ScreenFault.{ScreenFault}
+use Rattle.screening.specs.Screening.{Bounded, before, laid, total, if-some, span-of, or-citation, next-span, Screened, with-span, whole, scan, room-for, over, where-room, screened}
 
 pub none-of : {X T : Type 0} {t : T} → None ≡ Some t → X
 none-of e = let z : _≡_ {A = ℕ} 0 1 = cc in let no : ⊥ = omega arith in absurd no

@@ -15,14 +15,14 @@ use Rattle.std.specs.Results.{isOk, andOther}
 use Rattle.std.specs.Vec.{made}
 use Rattle.std.specs.declared.result.Result.{Result}
 use Rattle.std.specs.declared.result.Result.the-variants.{Ok, Err}
-use Rattle.tables.specs.declared.screening.ScreenFault.{ScreenFault}
-use Rattle.tables.specs.declared.screening.ScreenFault.the-variants.{Citation}
-use Rattle.tables.specs.Screening.{Bounded, next-span, Screened, with-span, whole, scan, room-for, over, where-room, screened}
-use Rattle.tables.specs.Spans.{with-held, rescan, confirmed, Accepted, Table-law, Spans-law}
-use Rattle.tables.proofs.Scans.{not-ok, bounded-next, Scanned, scanned-none, here, stopped, stopped-at-end}
-use Rattle.tables.specs.Trees.{size, spans-of, Lists, tree}
-use Rattle.tables.proofs.Laws.{cases-result, room-is, is-room, tree-scan, screening-law}
-use Rattle.tables.proofs.Forests.{length-spans, length-post}
+use Rattle.screening.specs.declared.fault.ScreenFault.{ScreenFault}
+use Rattle.screening.specs.declared.fault.ScreenFault.the-variants.{Citation}
+use Rattle.screening.specs.Screening.{Bounded, next-span, Screened, with-span, whole, scan, room-for, over, where-room, screened}
+use Rattle.screening.specs.Spans.{with-held, rescan, confirmed, Accepted, Table-law, Spans-law}
+use Rattle.screening.proofs.Scans.{not-ok, bounded-next, Scanned, scanned-none, here, stopped, stopped-at-end}
+use Rattle.screening.specs.Trees.{size, spans-of, Lists, tree}
+use Rattle.screening.proofs.Laws.{cases-result, room-is, is-room, tree-scan, screening-law}
+use Rattle.screening.proofs.Forests.{length-spans, length-post}
 
 -- After i rows: what is left gives the whole, of the screening too.
 pub record Rescanned {R : Type 0} (cited : R → Option (List ℕ)) (rows : List R) (i : ℕ) (spans : List ℕ) : Type 0 where

@@ -6,10 +6,10 @@ use lib.ListN.{length, take}
 use borrow.Author.Needs.{needs}
 use Rattle.std.proofs.shelf.Lists.{length-take-le}
 use Rattle.std.proofs.shelf.Results.{err-from-errBy}
-use Rattle.tables.specs.Screening.{whole, screened}
-use Rattle.tables.proofs.Scans.{scanned-none, scanned-more, stopped, stopped-at-row, stopped-at-end}
-use Rattle.tables.proofs.Laws.{law-of}
-use Rattle.tables.proofs.screening.screen.Needs as need
+use Rattle.screening.specs.Screening.{whole, screened}
+use Rattle.screening.proofs.Scans.{scanned-none, scanned-more, stopped, stopped-at-row, stopped-at-end}
+use Rattle.screening.proofs.Laws.{law-of}
+use Rattle.screening.proofs.screen.Needs as need
 
 pub returns-in-Break-room-for : need.returns-in-Break-room-for
 returns-in-Break-room-for g c =

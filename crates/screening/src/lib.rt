@@ -1,5 +1,7 @@
 // Screening: whether the rows of a table cite earlier rows as a tree listed in post-order does, and each row's span.
 // The span of a row is the number of rows of the tree that it is the root of: 1 more than the spans of the rows it cites.
+pub mod fault;
+
 ghost use mathlib.Core.Path.{_≡_};
 ghost use Prim.Native.Nat.{ℕ, _+_, _<_, _≤_};
 ghost use lib.ListN.{length, take};
@@ -7,53 +9,12 @@ ghost use Rattle.std.specs.declared.result.Result.the-variants.{Ok};
 ghost use Rattle.std.specs.declared.option.Option.the-variants.{Some};
 ghost use Rattle.std.specs.Vec.{made};
 ghost use Rattle.rows.specs.Few.{listed};
-ghost use Rattle.tables.specs.Screening.{Bounded, before, laid, next-span, room-for, whole, screened};
-ghost use Rattle.tables.specs.Trees.{Screening-law};
-ghost use Rattle.tables.specs.Refusals.{screen-refusal};
-ghost use Rattle.tables.specs.Spans.{confirmed, Accepted, Spans-law};
+ghost use Rattle.screening.specs.Screening.{Bounded, before, laid, next-span, room-for, whole, screened};
+ghost use Rattle.screening.specs.Trees.{Screening-law};
+ghost use Rattle.screening.specs.Spans.{confirmed, Accepted, Spans-law};
+use crate::fault::ScreenFault;
 use rows::citing::Citing;
 use rows::few::Few;
-
-#[derive(Clone, Copy, PartialEq, Eq, Debug)]
-pub enum ScreenFault {
-    // no rows, or more than the longest table has
-    Size,
-    // fewer spans than rows
-    Memory,
-    // a code that stands for nothing, or a field in use that the row has no use for
-    Unknown { row: u16 },
-    // a citation that is not the root of the tree next to be taken
-    Citation { row: u16 },
-    // the rows list several trees
-    Divided { row: u16 },
-}
-
-impl ScreenFault {
-    // The number under which the refusal is published.
-    pub fn number(self) -> u8
-        ensures { λ r. ⌜ r ≡ screen-refusal self .number ⌝ }
-    {
-        match self {
-            ScreenFault::Size => 21,
-            ScreenFault::Memory => 22,
-            ScreenFault::Unknown { row: _ } => 23,
-            ScreenFault::Citation { row: _ } => 24,
-            ScreenFault::Divided { row: _ } => 25,
-        }
-    }
-
-    // The row at fault, or 0 where none is.
-    pub fn place(self) -> u16
-        ensures { λ r. ⌜ r ≡ screen-refusal self .place ⌝ }
-    {
-        match self {
-            ScreenFault::Size | ScreenFault::Memory => 0,
-            ScreenFault::Unknown { row }
-            | ScreenFault::Citation { row }
-            | ScreenFault::Divided { row } => row,
-        }
-    }
-}
 
 // Where the tree of row `cited` begins, if that row comes right before row `next`.
 fn start_before(done: &[u16], cited: u16, next: usize) -> Option<usize>
@@ -147,7 +108,7 @@ pub fn screen<R: Citing>(rows: &[R], spans: &mut [u16]) -> Result<(), ScreenFaul
 }
 
 // Whether the spans held are those that screening would write for these rows, and it would accept them.
-pub(crate) fn confirm<R: Citing>(rows: &[R], spans: &[u16]) -> Result<(), ScreenFault>
+pub fn confirm<R: Citing>(rows: &[R], spans: &[u16]) -> Result<(), ScreenFault>
     ensures answer { λ r. ⌜ r ≡ confirmed cited limit (now (rows .entry)) (now (spans .entry)) ⌝ }
     ensures fits { λ r. ⌜ made r (λ _. (0 < length (now (rows .entry))) × (length (now (rows .entry)) ≤ limit) × (length (now (rows .entry)) ≤ length (now (spans .entry)))) ⌝ }
     ensures law { λ r. ⌜ Spans-law cited limit (now (rows .entry)) (now (spans .entry)) r ⌝ }

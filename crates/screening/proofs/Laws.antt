@@ -13,12 +13,12 @@ use Rattle.std.specs.declared.option.Option.{Option}
 use Rattle.std.specs.declared.option.Option.the-variants.{Some, None}
 use Rattle.std.specs.declared.result.Result.{Result}
 use Rattle.std.specs.declared.result.Result.the-variants.{Ok, Err}
-use Rattle.tables.specs.declared.screening.ScreenFault.{ScreenFault}
-use Rattle.tables.specs.declared.screening.ScreenFault.the-variants.{Size, Memory, Unknown, Citation, Divided}
-use Rattle.tables.specs.Screening.{laid, total, span-of, or-citation, next-span, Screened, with-span, whole, scan, room-for, over, where-room, screened}
-use Rattle.tables.specs.Trees.{Forest, bare, plant, size, post, spans-of, roots, Cites, Lists-trees, Lists, tree, Stops-at, Divides-at, Screening-law}
-use Rattle.tables.proofs.Scans.{none-of, if-some-is, placed}
-use Rattle.tables.proofs.Forests.{join, size-join, post-join, spans-join, length-spans, length-post, cites-join, join-cites, last-some, root-span, total-roots, scan-post, size-zero, split}
+use Rattle.screening.specs.declared.fault.ScreenFault.{ScreenFault}
+use Rattle.screening.specs.declared.fault.ScreenFault.the-variants.{Size, Memory, Unknown, Citation, Divided}
+use Rattle.screening.specs.Screening.{laid, total, span-of, or-citation, next-span, Screened, with-span, whole, scan, room-for, over, where-room, screened}
+use Rattle.screening.specs.Trees.{Forest, bare, plant, size, post, spans-of, roots, Cites, Lists-trees, Lists, tree, Stops-at, Divides-at, Screening-law}
+use Rattle.screening.proofs.Scans.{none-of, if-some-is, placed}
+use Rattle.screening.proofs.Forests.{join, size-join, post-join, spans-join, length-spans, length-post, cites-join, join-cites, last-some, root-span, total-roots, scan-post, size-zero, split}
 
 pub ok-not-err : {X E : Type 0} {fault : E} → _≡_ {A = Result (Unit {0}) E} (Err fault) (Ok tt) → X
 ok-not-err e = let z : _≡_ {A = ℕ} 0 1 = cc in let no : ⊥ = omega arith in absurd no

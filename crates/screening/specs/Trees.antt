@@ -8,8 +8,8 @@ use Rattle.std.specs.declared.option.Option.{Option}
 use Rattle.std.specs.declared.option.Option.the-variants.{Some, None}
 use Rattle.std.specs.declared.result.Result.{Result}
 use Rattle.std.specs.declared.result.Result.the-variants.{Ok, Err}
-use Rattle.tables.specs.declared.screening.ScreenFault.{ScreenFault}
-use Rattle.tables.specs.declared.screening.ScreenFault.the-variants.{Size, Memory, Unknown, Citation, Divided}
+use Rattle.screening.specs.declared.fault.ScreenFault.{ScreenFault}
+use Rattle.screening.specs.declared.fault.ScreenFault.the-variants.{Size, Memory, Unknown, Citation, Divided}
 
 -- Trees side by side: the first one's row, the trees below it, and the trees after it.
 pub data Forest (R : Type 0) : Type 0 where

@@ -6,10 +6,10 @@ use lib.ListN.{getD}
 use Rattle.std.proofs.shelf.Tests.{ne-eqb}
 use Rattle.std.proofs.shelf.Results.{err-from-errBy}
 use Rattle.std.specs.declared.result.Result.the-variants.{Err}
-use Rattle.tables.specs.declared.screening.ScreenFault.the-variants.{Citation}
-use Rattle.tables.specs.Spans.{confirmed}
-use Rattle.tables.proofs.Held.{made-always, at-row, rescanned-more, spans-law, confirmed-end}
-use Rattle.tables.proofs.screening.confirm.Needs as need
+use Rattle.screening.specs.declared.fault.ScreenFault.the-variants.{Citation}
+use Rattle.screening.specs.Spans.{confirmed}
+use Rattle.screening.proofs.Held.{made-always, at-row, rescanned-more, spans-law, confirmed-end}
+use Rattle.screening.proofs.confirm.Needs as need
 
 pub returns-in-Break-span : need.returns-in-Break-span
 returns-in-Break-span g c =

@@ -1,0 +1,4 @@
+pub mod Scans
+pub mod Forests
+pub mod Laws
+pub mod Held

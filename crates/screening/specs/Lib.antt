@@ -1,0 +1,4 @@
+pub mod Screening
+pub mod Trees
+pub mod Spans
+pub mod Refusals

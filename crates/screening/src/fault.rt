@@ -1,0 +1,44 @@
+// Why a table is refused.
+ghost use mathlib.Core.Path.{_≡_};
+ghost use Rattle.screening.specs.Refusals.{screen-refusal};
+
+#[derive(Clone, Copy, PartialEq, Eq, Debug)]
+pub enum ScreenFault {
+    // no rows, or more than the longest table has
+    Size,
+    // fewer spans than rows
+    Memory,
+    // a code that stands for nothing, or a field in use that the row has no use for
+    Unknown { row: u16 },
+    // a citation that is not the root of the tree next to be taken
+    Citation { row: u16 },
+    // the rows list several trees
+    Divided { row: u16 },
+}
+
+impl ScreenFault {
+    // The number under which the refusal is published.
+    pub fn number(self) -> u8
+        ensures { λ r. ⌜ r ≡ screen-refusal self .number ⌝ }
+    {
+        match self {
+            ScreenFault::Size => 21,
+            ScreenFault::Memory => 22,
+            ScreenFault::Unknown { row: _ } => 23,
+            ScreenFault::Citation { row: _ } => 24,
+            ScreenFault::Divided { row: _ } => 25,
+        }
+    }
+
+    // The row at fault, or 0 where none is.
+    pub fn place(self) -> u16
+        ensures { λ r. ⌜ r ≡ screen-refusal self .place ⌝ }
+    {
+        match self {
+            ScreenFault::Size | ScreenFault::Memory => 0,
+            ScreenFault::Unknown { row }
+            | ScreenFault::Citation { row }
+            | ScreenFault::Divided { row } => row,
+        }
+    }
+}
