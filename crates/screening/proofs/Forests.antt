@@ -2,15 +2,14 @@
 use mathlib.Core.Path.{_≡_, refl, sym, _∙_, ap, subst}
 use mathlib.Core.Bool.{true}
 use mathlib.Core.List.{List, [], _∷_, _++_}
-use Prim.Native.Nat.{ℕ, _+_, _-_, _<_, _≤_}
+use Prim.Native.Nat.{ℕ, _+_, _-_, _<_}
 use native.Mathlib.Omega.{arith}
 use lib.Dec.{eqb}
 use lib.ListN.{length, getD}
 use Rattle.std.proofs.shelf.Tests.{eq-eqb}
 use Rattle.std.proofs.shelf.Lists.{length-push, append-assoc, append-nil, length-append, getD-at}
 use Rattle.std.specs.declared.option.Option.{Option}
-use Rattle.std.specs.declared.option.Option.the-variants.{Some, None}
-use Rattle.std.specs.declared.result.Result.the-variants.{Ok, Err}
+use Rattle.std.specs.declared.option.Option.the-variants.{Some}
 use Rattle.screening.specs.Screening.{before, laid, total, if-some, span-of, or-citation, next-span, with-span, scan}
 use Rattle.screening.specs.Trees.{Forest, bare, plant, size, post, spans-of, roots, Cites}
 use Rattle.screening.proofs.Scans.{before-is}

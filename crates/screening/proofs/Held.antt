@@ -1,25 +1,24 @@
 -- The scan of a table whose spans are held: each turn of its loop, and what it says of the screening.
 use mathlib.Core.Path.{_≡_, refl, sym, _∙_, ap}
-use mathlib.Core.Bool.{Bool, true, false, cond}
-use mathlib.Core.Logic.{_⊎_, inl, inr}
+use mathlib.Core.Bool.{true}
+use mathlib.Core.Logic.{inl, inr}
 use mathlib.Core.List.{List, [], _∷_, _++_}
 use Prim.Native.Nat.{ℕ, _+_, _-_, _<_, _≤_}
 use native.Mathlib.Omega.{arith}
 use lib.Dec.{eqb}
 use lib.ListN.{length, getD, take, drop}
 use Rattle.std.proofs.shelf.Results.{made-at-ok}
-use Rattle.std.proofs.shelf.Tests.{eq-eqb, ne-eqb}
+use Rattle.std.proofs.shelf.Tests.{eq-eqb}
 use Rattle.std.proofs.shelf.Lists.{at-drop-more, at-drop-all, take-more, length-take-le, append-assoc, append-nil, length-append, length-push, length-drop, getD-at, drop-all}
 use Rattle.std.specs.declared.option.Option.{Option}
-use Rattle.std.specs.Results.{isOk, andOther}
+use Rattle.std.specs.Results.{isOk}
 use Rattle.std.specs.Vec.{made}
 use Rattle.std.specs.declared.result.Result.{Result}
 use Rattle.std.specs.declared.result.Result.the-variants.{Ok, Err}
 use Rattle.screening.specs.declared.fault.ScreenFault.{ScreenFault}
-use Rattle.screening.specs.declared.fault.ScreenFault.the-variants.{Citation}
-use Rattle.screening.specs.Screening.{Bounded, next-span, Screened, with-span, whole, scan, room-for, over, where-room, screened}
+use Rattle.screening.specs.Screening.{next-span, with-span, whole, scan, room-for, over, screened}
 use Rattle.screening.specs.Spans.{with-held, rescan, confirmed, Accepted, Table-law, Spans-law}
-use Rattle.screening.proofs.Scans.{not-ok, bounded-next, Scanned, scanned-none, here, stopped, stopped-at-end}
+use Rattle.screening.proofs.Scans.{not-ok, bounded-next, Scanned, scanned-none, here, stopped-at-end}
 use Rattle.screening.specs.Trees.{size, spans-of, Lists, tree}
 use Rattle.screening.proofs.Laws.{cases-result, room-is, is-room, tree-scan, screening-law}
 use Rattle.screening.proofs.Forests.{length-spans, length-post}

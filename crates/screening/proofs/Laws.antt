@@ -1,6 +1,6 @@
 -- What screening accepts is exactly what lists one tree; a refusal says how far the rows list trees.
 use mathlib.Core.Path.{_≡_, refl, sym, _∙_, ap, subst}
-use mathlib.Core.Bool.{Bool, true, false, cond, _||_}
+use mathlib.Core.Bool.{true, false, _||_}
 use mathlib.Core.Logic.{_⊎_, inl, inr}
 use mathlib.Core.List.{List, [], _∷_, _++_}
 use Prim.Native.Nat.{ℕ, zero, suc, _+_, _-_, _<_, _≤_}
@@ -15,8 +15,8 @@ use Rattle.std.specs.declared.result.Result.{Result}
 use Rattle.std.specs.declared.result.Result.the-variants.{Ok, Err}
 use Rattle.screening.specs.declared.fault.ScreenFault.{ScreenFault}
 use Rattle.screening.specs.declared.fault.ScreenFault.the-variants.{Size, Memory, Unknown, Citation, Divided}
-use Rattle.screening.specs.Screening.{laid, total, span-of, or-citation, next-span, Screened, with-span, whole, scan, room-for, over, where-room, screened}
-use Rattle.screening.specs.Trees.{Forest, bare, plant, size, post, spans-of, roots, Cites, Lists-trees, Lists, tree, Stops-at, Divides-at, Screening-law}
+use Rattle.screening.specs.Screening.{laid, total, span-of, or-citation, next-span, Screened, with-span, whole, scan, room-for, over, screened}
+use Rattle.screening.specs.Trees.{Forest, bare, plant, size, post, spans-of, roots, Cites, Lists, tree, Stops-at, Divides-at, Screening-law}
 use Rattle.screening.proofs.Scans.{none-of, if-some-is, placed}
 use Rattle.screening.proofs.Forests.{join, size-join, post-join, spans-join, length-spans, length-post, cites-join, join-cites, last-some, root-span, total-roots, scan-post, size-zero, split}
 

@@ -1,21 +1,20 @@
 -- The scan of a table, row by row: what a turn of the loop keeps, and what an accepted row has.
 use mathlib.Core.Path.{_≡_, refl, sym, _∙_, ap}
-use mathlib.Core.Bool.{Bool, true, false, cond}
-use mathlib.Core.Logic.{_⊎_, inl, inr}
+use mathlib.Core.Bool.{true, false}
+use mathlib.Core.Logic.{inl, inr}
 use mathlib.Core.List.{List, [], _∷_, _++_}
 use Prim.Native.Nat.{ℕ, _+_, _-_, _<_, _≤_}
 use native.Mathlib.Omega.{arith}
-use lib.Dec.{eqb, ltb}
+use lib.Dec.{eqb}
 use lib.ListN.{length, getD, take, drop, set}
 use Rattle.std.proofs.shelf.Tests.{eqb-true, cases-bool, cases-lt}
 use Rattle.std.proofs.shelf.Lists.{at-drop-more, at-drop-all, take-more-set, take-append-drop, length-take-le, drop-set-lt, getD-append-left, length-push, getD-push, drop-drop}
 use Rattle.std.specs.declared.option.Option.{Option}
 use Rattle.std.specs.declared.option.Option.the-variants.{Some, None}
-use Rattle.std.specs.Results.{isOk}
 use Rattle.std.specs.declared.result.Result.{Result}
 use Rattle.std.specs.declared.result.Result.the-variants.{Ok, Err}
 use Rattle.screening.specs.declared.fault.ScreenFault.{ScreenFault}
-use Rattle.screening.specs.Screening.{Bounded, before, laid, total, if-some, span-of, or-citation, next-span, Screened, with-span, whole, scan, room-for, over, where-room, screened}
+use Rattle.screening.specs.Screening.{Bounded, before, laid, total, if-some, span-of, or-citation, next-span, with-span, whole, scan, room-for, over, screened}
 
 pub none-of : {X T : Type 0} {t : T} → None ≡ Some t → X
 none-of e = let z : _≡_ {A = ℕ} 0 1 = cc in let no : ⊥ = omega arith in absurd no

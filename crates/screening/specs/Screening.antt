@@ -1,7 +1,6 @@
 -- Screening. The span of a row is 1 plus the spans of the rows that it cites. In row i the last citation is i - 1, and
 -- each earlier one is p - span p, where p is the citation after it. The span of the last row is the table's length.
-use mathlib.Core.Path.{_≡_}
-use mathlib.Core.Bool.{Bool, true, false, cond, _||_}
+use mathlib.Core.Bool.{cond, _||_}
 use mathlib.Core.List.{List, [], _∷_, _++_}
 use Prim.Native.Nat.{ℕ, _+_, _-_, _<_, _≤_}
 use lib.Dec.{eqb, ltb}

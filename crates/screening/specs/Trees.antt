@@ -5,11 +5,11 @@ use mathlib.Core.List.{List, [], _∷_, _++_}
 use Prim.Native.Nat.{ℕ, _+_, _<_, _≤_}
 use lib.ListN.{length, drop, take}
 use Rattle.std.specs.declared.option.Option.{Option}
-use Rattle.std.specs.declared.option.Option.the-variants.{Some, None}
+use Rattle.std.specs.declared.option.Option.the-variants.{Some}
 use Rattle.std.specs.declared.result.Result.{Result}
 use Rattle.std.specs.declared.result.Result.the-variants.{Ok, Err}
 use Rattle.screening.specs.declared.fault.ScreenFault.{ScreenFault}
-use Rattle.screening.specs.declared.fault.ScreenFault.the-variants.{Size, Memory, Unknown, Citation, Divided}
+use Rattle.screening.specs.declared.fault.ScreenFault.the-variants.{Unknown, Citation, Divided}
 
 -- Trees side by side: the first one's row, the trees below it, and the trees after it.
 pub data Forest (R : Type 0) : Type 0 where

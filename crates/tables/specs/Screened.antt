@@ -7,7 +7,7 @@ use lib.ListN.{length, take}
 use lib.IntN.{pos}
 use Rattle.std.specs.Results.{isOk}
 use Rattle.std.specs.declared.result.Result.{Result}
-use Rattle.std.specs.declared.result.Result.the-variants.{Ok, Err}
+use Rattle.std.specs.declared.result.Result.the-variants.{Ok}
 use Rattle.rows.specs.declared.fields.Fields.{Fields}
 use Rattle.rows.specs.declared.syntax.SyntaxRow.{SyntaxRow}
 use Rattle.rows.specs.declared.derivation.DerivationRow.{DerivationRow}

@@ -1,13 +1,13 @@
 // Whether screened syntax rows form a program: the sorts of children, the data, and a command at the end.
 ghost use mathlib.Core.Path.{_≡_};
-ghost use Prim.Native.Nat.{ℕ, _<_, _≤_};
+ghost use Prim.Native.Nat.{_<_};
 ghost use lib.ListN.{length};
 ghost use Rattle.std.specs.Runs.{nth};
 ghost use Rattle.rows.specs.Few.{listed};
 ghost use Rattle.rows.specs.Fields.{in-order};
 ghost use Rattle.tables.specs.Refusals.{program-refusal};
 ghost use Rattle.tables.specs.declared.forming.ProgramFault.the-variants.{Screening};
-ghost use Rattle.tables.specs.Forming.{is-of, sort-at, sorted, formed-row, ends-in-command, formed, same-sort};
+ghost use Rattle.tables.specs.Forming.{is-of, sort-at, sorted, formed-row, ends-in-command, formed};
 use rows::few::Few;
 use rows::fields::Fields;
 use rows::syntax::Kind;

@@ -1,9 +1,7 @@
 -- Where the loop stops, the answer and the memory are those of the definition, and the law follows from that.
 use mathlib.Core.Path.{_≡_, refl, _∙_, ap}
-use Prim.Native.Nat.{_<_, _≤_}
 use native.Mathlib.Omega.{arith}
 use lib.ListN.{length, take}
-use borrow.Author.Needs.{needs}
 use Rattle.std.proofs.shelf.Lists.{length-take-le}
 use Rattle.std.proofs.shelf.Results.{err-from-errBy}
 use Rattle.screening.specs.Screening.{whole, screened}
