@@ -1,4 +1,5 @@
--- What each kind of row cites. A row whose code is unknown cites nothing, and so does one with a wrong unused field.
+-- What each kind of row cites, and how long a table of them may be. A row has no citations (None) where its code is
+-- unknown or an unused field is in use; a row with nothing to cite has an empty list of them.
 use mathlib.Core.List.{List}
 use Prim.Native.Nat.{ℕ}
 use Rattle.std.specs.declared.option.Option.{Option}
@@ -11,6 +12,13 @@ use Rattle.rows.specs.declared.derivation.DerivationRow.{DerivationRow}
 use Rattle.rows.specs.Fields.{in-order, used}
 use Rattle.rows.specs.Syntax.{kind-of, children-of}
 use Rattle.rows.specs.Derivation.{rule-of, premises-of}
+
+-- the most rows that a program and a derivation have
+abbrev pub longest-program : ℕ
+longest-program = 1024
+
+abbrev pub longest-derivation : ℕ
+longest-derivation = 2048
 
 abbrev pub children-cited : Option Kind → Fields → Option (List ℕ)
 children-cited None fields = None

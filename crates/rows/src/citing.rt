@@ -5,7 +5,7 @@ ghost use Prim.Native.Nat.{ℕ, _<_};
 ghost use denote.Ref.{now};
 ghost use Rattle.std.specs.declared.option.Option.{Option};
 ghost use Rattle.rows.specs.Few.{listing};
-ghost use Rattle.rows.specs.Citing.{syntax-cites, derivation-cites};
+ghost use Rattle.rows.specs.Citing.{longest-program, longest-derivation, syntax-cites, derivation-cites};
 use crate::derivation::DerivationRow;
 use crate::derivation::Rule;
 use crate::few::Few;
@@ -21,9 +21,10 @@ pub trait Citing {
     // the length of the longest table
     ghost limit: { ℕ };
 
-    // the rows that a row cites, first to last; none where the row is not as its code asks
+    // the rows that a row cites, first to last; None where its code is unknown or an unused field is in use
     ghost cited: { Self → Option (List ℕ) };
 
+    // so that row numbers and spans fit 16 bits, and 65,535 is no row
     law limited: { limit < 65535 };
 
     fn longest() -> usize
@@ -34,7 +35,7 @@ pub trait Citing {
 }
 
 pub impl Citing for SyntaxRow as SyntaxCiting {
-    ghost limit = { 1024 };
+    ghost limit = { longest-program };
 
     ghost cited = { syntax-cites };
 
@@ -49,7 +50,7 @@ pub impl Citing for SyntaxRow as SyntaxCiting {
 }
 
 pub impl Citing for DerivationRow as DerivationCiting {
-    ghost limit = { 2048 };
+    ghost limit = { longest-derivation };
 
     ghost cited = { derivation-cites };
 

@@ -52,11 +52,11 @@ impl Fields {
             second,
             third,
         } = self;
-        let spare = third == UNUSED;
+        let third_unused = third == UNUSED;
         match parts {
-            Few::Zero if first == UNUSED && second == UNUSED && spare => Some(Few::Zero),
-            Few::One(_) if second == UNUSED && spare => Some(Few::One(first)),
-            Few::Two(_, _) if spare => Some(Few::Two(first, second)),
+            Few::Zero if first == UNUSED && second == UNUSED && third_unused => Some(Few::Zero),
+            Few::One(_) if second == UNUSED && third_unused => Some(Few::One(first)),
+            Few::Two(_, _) if third_unused => Some(Few::Two(first, second)),
             Few::Three(_, _, _) => Some(Few::Three(first, second, third)),
             _ => None,
         }

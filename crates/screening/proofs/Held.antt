@@ -8,19 +8,20 @@ use native.Mathlib.Omega.{arith}
 use lib.Dec.{eqb}
 use lib.ListN.{length, getD, take, drop}
 use Rattle.std.proofs.shelf.Results.{made-at-ok}
-use Rattle.std.proofs.shelf.Tests.{eq-eqb}
+use Rattle.std.proofs.shelf.Tests.{cases-bool, eqb-true, eq-eqb}
 use Rattle.std.proofs.shelf.Lists.{at-drop-more, at-drop-all, take-more, length-take-le, append-assoc, append-nil, length-append, length-push, length-drop, getD-at, drop-all}
 use Rattle.std.specs.declared.option.Option.{Option}
-use Rattle.std.specs.Results.{isOk}
+use Rattle.std.specs.Results.{isOk, andOther}
 use Rattle.std.specs.Vec.{made}
 use Rattle.std.specs.declared.result.Result.{Result}
 use Rattle.std.specs.declared.result.Result.the-variants.{Ok, Err}
 use Rattle.screening.specs.declared.fault.ScreenFault.{ScreenFault}
+use Rattle.screening.specs.declared.fault.ScreenFault.the-variants.{Citation}
 use Rattle.screening.specs.Screening.{next-span, with-span, whole, scan, room-for, over, screened}
-use Rattle.screening.specs.Spans.{with-held, rescan, confirmed, Accepted, Table-law, Spans-law}
-use Rattle.screening.proofs.Scans.{not-ok, bounded-next, Scanned, scanned-none, here, stopped-at-end}
+use Rattle.screening.specs.Spans.{held-span, rescan, confirmed, Accepted, Table-law, Spans-law}
+use Rattle.screening.proofs.Scans.{not-ok, ok-not-err, cases-result, bounded-next, Scanned, scanned-none, here, stopped-at-end}
 use Rattle.screening.specs.Trees.{size, spans-of, Lists, tree}
-use Rattle.screening.proofs.Laws.{cases-result, room-is, is-room, tree-scan, screening-law}
+use Rattle.screening.proofs.Laws.{room-is, is-room, tree-scan, screening-law}
 use Rattle.screening.proofs.Forests.{length-spans, length-post}
 
 -- After i rows: what is left gives the whole, of the screening too.
@@ -32,24 +33,34 @@ pub rescanned-none : {R : Type 0} (cited : R → Option (List ℕ)) (rows : List
 rescanned-none cited rows spans = record { left = refl; scanned = scanned-none cited rows spans }
 
 -- row i, with the span that is held for it
-pub at-row : {R : Type 0} (cited : R → Option (List ℕ)) (rows : List R) (i : ℕ) (spans : List ℕ) → Rescanned cited rows i spans → (r : R) → i < length rows → i < length spans → r ≡ getD rows i r → rescan cited rows [] spans ≡ with-held i (getD spans i 0) (next-span (cited r) (take i spans)) (rescan cited (drop (i + 1) rows) (take (i + 1) spans) spans)
+pub at-row : {R : Type 0} (cited : R → Option (List ℕ)) (rows : List R) (i : ℕ) (spans : List ℕ) → Rescanned cited rows i spans → (r : R) → i < length rows → i < length spans → r ≡ getD rows i r → rescan cited rows [] spans ≡ andOther (held-span i (getD spans i 0) (next-span (cited r) (take i spans))) (rescan cited (drop (i + 1) rows) (take (i + 1) spans) spans)
 at-row cited rows i spans inv r l m e =
     let n : length (take i spans) ≡ i = length-take-le i spans (omega arith) in
     let t : take (i + 1) spans ≡ take i spans ++ getD spans i 0 ∷ [] = take-more spans i 0 m in
     let f : rescan cited (drop i rows) (take i spans) spans ≡ rescan cited (getD rows i r ∷ drop (i + 1) rows) (take i spans) spans = at-drop-more (λ rs. rescan cited rs (take i spans) spans) rows i r l in
     sym (inv .left) ∙ f ∙ rw (← e, n, t) refl
 
-pub rescanned-more : {R : Type 0} (cited : R → Option (List ℕ)) (rows : List R) (i : ℕ) (spans : List ℕ) → Rescanned cited rows i spans → (r : R) → i < length rows → i < length spans → r ≡ getD rows i r → (s : ℕ) → Ok s ≡ next-span (cited r) (take i spans) → s ≡ getD spans i 0 → Rescanned cited rows (i + 1) spans
-rescanned-more cited rows i spans inv r l m e s q h =
-    let t : take (i + 1) spans ≡ take i spans ++ s ∷ [] = take-more spans i 0 m ∙ ap (λ x. take i spans ++ x ∷ []) (sym h) in
-    let b : eqb s (getD spans i 0) ≡ true = eq-eqb _ _ h in
-    let g : with-span (take i spans) (next-span (cited r) (take i spans)) (λ s. scan cited (drop (i + 1) rows) (take i spans ++ s ∷ [])) ≡ scan cited (drop (i + 1) rows) (take i spans ++ s ∷ []) = rw (← q) refl in
+-- a span that is held as it should be
+pub held-is : (row held : ℕ) (o : Result ℕ ScreenFault) → Ok tt ≡ held-span row held o → o ≡ Ok held
+held-is row held (Err fault) e = ok-not-err (sym e)
+held-is row held (Ok s) e =
+    elim (cases-bool (eqb s held)) [
+      | inl t ↦ ap Ok (eqb-true _ _ t)
+      | inr f ↦ let k : Ok tt ≡ Err (Citation row) = rw f at e in ok-not-err (sym k)
+    ]
+
+pub rescanned-more : {R : Type 0} (cited : R → Option (List ℕ)) (rows : List R) (i : ℕ) (spans : List ℕ) → Rescanned cited rows i spans → (r : R) → i < length rows → i < length spans → r ≡ getD rows i r → Ok tt ≡ held-span i (getD spans i 0) (next-span (cited r) (take i spans)) → Rescanned cited rows (i + 1) spans
+rescanned-more cited rows i spans inv r l m e h =
+    let s = getD spans i 0 in
+    let o : next-span (cited r) (take i spans) ≡ Ok s = held-is i s (next-span (cited r) (take i spans)) h in
+    let t : take (i + 1) spans ≡ take i spans ++ s ∷ [] = take-more spans i 0 m in
+    let g : with-span (take i spans) (next-span (cited r) (take i spans)) (λ s. scan cited (drop (i + 1) rows) (take i spans ++ s ∷ [])) ≡ scan cited (drop (i + 1) rows) (take i spans ++ s ∷ []) = rw o refl in
     record {
-      left = sym (at-row cited rows i spans inv r l m e ∙ rw (← q) (rw b refl));
+      left = sym (at-row cited rows i spans inv r l m e ∙ rw (← h) refl);
       scanned = record {
         left = rw t (sym g ∙ sym (here cited rows spans i spans (inv .scanned) r l e));
         rest = refl;
-        bounded = rw t (bounded-next (cited r) (take i spans) s (inv .scanned .bounded) (sym q));
+        bounded = rw t (bounded-next (cited r) (take i spans) s (inv .scanned .bounded) o);
       };
     }
 

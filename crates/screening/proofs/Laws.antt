@@ -7,21 +7,21 @@ use Prim.Native.Nat.{ℕ, zero, suc, _+_, _-_, _<_, _≤_}
 use native.Mathlib.Omega.{arith}
 use lib.Dec.{eqb, ltb}
 use lib.ListN.{length, getD, take, drop}
-use Rattle.std.proofs.shelf.Tests.{cases-bool, eqb-true, eqb-false, eq-eqb, ne-eqb, le-ltb, ltb-false, or-parts}
-use Rattle.std.proofs.shelf.Lists.{length-push, append-assoc, append-nil, length-append, take-at, drop-at}
+use Rattle.std.proofs.shelf.Tests.{cases-bool, eqb-true, eqb-false, eq-eqb, ne-eqb, le-ltb, ltb-true, ltb-false, or-parts}
+use Rattle.std.proofs.shelf.Lists.{length-push, append-assoc, append-nil, length-append, take-at, drop-at, getD-at}
+use Rattle.std.proofs.shelf.Maps.{nth-getD}
+use Rattle.std.specs.Runs.{nth}
 use Rattle.std.specs.declared.option.Option.{Option}
 use Rattle.std.specs.declared.option.Option.the-variants.{Some, None}
 use Rattle.std.specs.declared.result.Result.{Result}
 use Rattle.std.specs.declared.result.Result.the-variants.{Ok, Err}
 use Rattle.screening.specs.declared.fault.ScreenFault.{ScreenFault}
-use Rattle.screening.specs.declared.fault.ScreenFault.the-variants.{Size, Memory, Unknown, Citation, Divided}
+use Rattle.screening.specs.declared.fault.ScreenFault.the-variants.{Size, Memory, Malformed, Citation, SeveralTrees}
 use Rattle.screening.specs.Screening.{laid, total, span-of, or-citation, next-span, Screened, with-span, whole, scan, room-for, over, screened}
 use Rattle.screening.specs.Trees.{Forest, bare, plant, size, post, spans-of, roots, Cites, Lists, tree, Stops-at, Divides-at, Screening-law}
-use Rattle.screening.proofs.Scans.{none-of, if-some-is, placed}
+use Rattle.screening.specs.Refusals.{screen-refusal}
+use Rattle.screening.proofs.Scans.{none-of, ok-not-err, cases-result, if-some-is, placed}
 use Rattle.screening.proofs.Forests.{join, size-join, post-join, spans-join, length-spans, length-post, cites-join, join-cites, last-some, root-span, total-roots, scan-post, size-zero, split}
-
-pub ok-not-err : {X E : Type 0} {fault : E} → _≡_ {A = Result (Unit {0}) E} (Err fault) (Ok tt) → X
-ok-not-err e = let z : _≡_ {A = ℕ} 0 1 = cc in let no : ⊥ = omega arith in absurd no
 
 -- one more row: it takes the trees that it names below it
 pub record More {R : Type 0} (cited : R → Option (List ℕ)) (f : Forest R) (r : R) (s : ℕ) : Type 0 where
@@ -72,10 +72,6 @@ pub record Halfway {R : Type 0} (cited : R → Option (List ℕ)) (rs : List R) 
 
 abbrev pub Progress : {R : Type 0} → (R → Option (List ℕ)) → List R → Forest R → Type 0
 Progress cited rs f = Through cited rs f ⊎ Halfway cited rs f
-
-pub cases-result : {T E : Type 0} (r : Result T E) → ((x : T) × (r ≡ Ok x)) ⊎ ((e : E) × (r ≡ Err e))
-cases-result (Ok x) = inl (x, refl)
-cases-result (Err e) = inr (e, refl)
 
 -- the progress from one more row on
 pub onward : {R : Type 0} (cited : R → Option (List ℕ)) (r : R) (rs : List R) (f : Forest R) (s : ℕ) (m : More cited f r s) → next-span (cited r) (spans-of f) ≡ Ok s → Progress cited rs (m .forest) → Progress cited (r ∷ rs) f
@@ -155,7 +151,7 @@ pub whole-is : (done : List ℕ) → whole done ≡ Ok tt → getD done (length 
 whole-is done h =
     elim (cases-bool (eqb (getD done (length done - 1) 0) (length done))) [
       | inl t ↦ eqb-true _ _ t
-      | inr f ↦ let k : Err (Divided (length done - 1)) ≡ Ok tt = rw f at h in ok-not-err k
+      | inr f ↦ let k : Err (SeveralTrees (length done - 1)) ≡ Ok tt = rw f at h in ok-not-err k
     ]
 
 pub only-tree : {R : Type 0} (cited : R → Option (List ℕ)) (rows : List R) (f : Forest R) → 0 < length rows → post f ≡ rows → Cites cited 0 f → whole (spans-of f) ≡ Ok tt → Lists cited rows
@@ -250,93 +246,103 @@ one-tree cited rows s t =
     same-forest (size (tree s)) (tree s) (tree t) (omega arith) (sym (s .listing) ∙ t .listing)
     (sym (ap (λ x. x .written) (tree-scan cited rows s)) ∙ ap (λ x. x .written) (tree-scan cited rows t))
 
--- the row at which a scan stopped, and the last row where it did not stop and the rows list several trees
-abbrev pub stop : Result (Unit {0}) ScreenFault → Option ℕ
-stop (Ok _) = None
-stop (Err Size) = None
-stop (Err Memory) = None
-stop (Err (Unknown i)) = Some i
-stop (Err (Citation i)) = Some i
-stop (Err (Divided i)) = None
+pub no-numbers : {X : Type 0} (f g : ScreenFault) → f ≡ g → (screen-refusal f .number ≡ screen-refusal g .number → ⊥) → X
+no-numbers f g e n = absurd (n (ap (λ x. screen-refusal x .number) e))
 
-abbrev pub division : Result (Unit {0}) ScreenFault → Option ℕ
-division (Ok _) = None
-division (Err Size) = None
-division (Err Memory) = None
-division (Err (Unknown i)) = None
-division (Err (Citation i)) = None
-division (Err (Divided i)) = Some i
+pub same-fault : (f g : ScreenFault) → _≡_ {A = Result (Unit {0}) ScreenFault} (Err f) (Err g) → f ≡ g
+same-fault f g e = cc
 
-pub room-stops : (limit n memory : ℕ) → (stop (room-for limit n memory) ≡ None) × (division (room-for limit n memory) ≡ None)
-room-stops limit n memory =
-    elim (cases-bool (eqb n 0 || ltb limit n)) [
-      | inl t ↦ (rw t refl, rw t refl)
-      | inr f ↦ elim (cases-bool (ltb memory n)) [ inl t ↦ (rw (f, t) refl, rw (f, t) refl) | inr d ↦ (rw (f, d) refl, rw (f, d) refl) ]
+-- the faults that each part of screening has
+pub room-fault : (limit n memory : ℕ) (fault : ScreenFault) → room-for limit n memory ≡ Err fault → ((fault ≡ Size) × ((n ≡ 0) ⊎ (limit < n))) ⊎ ((fault ≡ Memory) × (memory < n))
+room-fault limit n memory fault e =
+    elim (cases-bool (eqb n 0)) [
+      | inl z ↦ let k : Err Size ≡ Err fault = rw z at e in let q : fault ≡ Size = cc in inl (q, inl (eqb-true n 0 z))
+      | inr z ↦
+          elim (cases-bool (ltb limit n)) [
+            | inl t ↦ let k : Err Size ≡ Err fault = rw (z, t) at e in let q : fault ≡ Size = cc in inl (q, inr (ltb-true limit n t))
+            | inr t ↦
+                elim (cases-bool (ltb memory n)) [
+                  | inl m ↦ let k : Err Memory ≡ Err fault = rw (z, t, m) at e in let q : fault ≡ Memory = cc in inr (q, ltb-true memory n m)
+                  | inr m ↦ let k : Ok tt ≡ Err fault = rw (z, t, m) at e in ok-not-err (sym k)
+                ]
+          ]
     ]
 
-pub whole-stops : (done : List ℕ) → stop (whole done) ≡ None
-whole-stops done =
-    elim (cases-bool (eqb (getD done (length done - 1) 0) (length done))) [ inl t ↦ rw t refl | inr f ↦ rw f refl ]
-
-pub whole-divides : (done : List ℕ) (i : ℕ) → division (whole done) ≡ Some i → i ≡ length done - 1
-whole-divides done i e =
+pub whole-fault : (done : List ℕ) (fault : ScreenFault) → whole done ≡ Err fault → fault ≡ SeveralTrees (length done - 1)
+whole-fault done fault e =
     elim (cases-bool (eqb (getD done (length done - 1) 0) (length done))) [
-      | inl t ↦ let k : None ≡ Some i = rw t at e in none-of k
-      | inr f ↦ let k : Some (length done - 1) ≡ Some i = rw f at e in cc
+      | inl t ↦ let k : Ok tt ≡ Err fault = rw t at e in ok-not-err (sym k)
+      | inr f ↦ let k : Err (SeveralTrees (length done - 1)) ≡ Err fault = rw f at e in cc
     ]
 
-pub citation-stops : (row : ℕ) (o : Option ℕ) (fault : ScreenFault) → or-citation row o ≡ Err fault → (stop (Err fault) ≡ Some row) × (division (Err fault) ≡ None)
-citation-stops row None fault e = let k : Citation row ≡ fault = cc in (rw (← k) refl, rw (← k) refl)
-citation-stops row (Some s) fault e = let z : _≡_ {A = ℕ} 0 1 = cc in let no : ⊥ = omega arith in absurd no
+citation-fault : (row : ℕ) (o : Option ℕ) (fault : ScreenFault) → or-citation row o ≡ Err fault → fault ≡ Citation row
+citation-fault row None fault e = cc
+citation-fault row (Some s) fault e = let z : _≡_ {A = ℕ} 0 1 = cc in let no : ⊥ = omega arith in absurd no
 
-pub next-stops : (c : Option (List ℕ)) (done : List ℕ) (fault : ScreenFault) → next-span c done ≡ Err fault → (stop (Err fault) ≡ Some (length done)) × (division (Err fault) ≡ None)
-next-stops None done fault e = let k : Unknown (length done) ≡ fault = cc in (rw (← k) refl, rw (← k) refl)
-next-stops (Some ps) done fault e = citation-stops (length done) (span-of done ps) fault e
+pub next-fault : (c : Option (List ℕ)) (done : List ℕ) (fault : ScreenFault) → next-span c done ≡ Err fault → ((fault ≡ Malformed (length done)) × (c ≡ None)) ⊎ ((fault ≡ Citation (length done)) × (c ≡ None → ⊥))
+next-fault None done fault e = let k : fault ≡ Malformed (length done) = cc in inl (k, refl)
+next-fault (Some ps) done fault e = inr (citation-fault (length done) (span-of done ps) fault e, λ n. none-of (sym n))
 
-pub stops-at : {R : Type 0} (cited : R → Option (List ℕ)) (rows : List R) (memory : List ℕ) (h : Halfway cited rows bare) (i : ℕ) → stop (Err (h .fault)) ≡ Some i → Stops-at cited rows memory (spans-of (h .forest) ++ drop (length (spans-of (h .forest))) memory) i
-stops-at cited rows memory h i e =
+-- where the scan stopped at a row
+pub record Stopped-row {R : Type 0} (cited : R → Option (List ℕ)) (rows : List R) (memory : List ℕ) (h : Halfway cited rows bare) (i : ℕ) : Type 0 where
+  pub stops : Stops-at cited rows memory (spans-of (h .forest) ++ drop (length (spans-of (h .forest))) memory) i
+  pub row-is : (r : R) → nth rows i ≡ Some r → r ≡ h .row
+
+pub stopped-row : {R : Type 0} (cited : R → Option (List ℕ)) (rows : List R) (memory : List ℕ) (h : Halfway cited rows bare) (i : ℕ) → i ≡ length (spans-of (h .forest)) → Stopped-row cited rows memory h i
+stopped-row cited rows memory h i m =
     let f = h .forest in
-    let m : length (spans-of f) ≡ i = let k : Some (length (spans-of f)) ≡ Some i = sym (next-stops (cited (h .row)) (spans-of f) (h .fault) (h .refused) .0) ∙ e in cc in
-    let p : length (h .passed) ≡ i = sym (ap length (h .listing)) ∙ length-post f ∙ sym (length-spans f) ∙ m in
+    let p : length (h .passed) ≡ i = sym (ap length (h .listing)) ∙ length-post f ∙ sym (length-spans f) ∙ sym m in
     let q : length (h .passed ++ h .row ∷ []) ≡ i + 1 = length-push (h .passed) (h .row) ∙ omega arith in
     let r : rows ≡ (h .passed ++ h .row ∷ []) ++ h .left = h .parts ∙ sym (append-assoc (h .passed) (h .row ∷ []) (h .left)) in
+    let w : i < length rows = rw (h .parts) (omega (arith, length-append (h .passed) (h .row ∷ h .left))) in
     record {
-      within = rw (h .parts) (omega (arith, length-append (h .passed) (h .row ∷ h .left)));
-      before = record { forest = f; listing = ap (take i) (h .parts) ∙ take-at (h .passed) (h .row ∷ h .left) i p ∙ sym (h .listing); citing = h .citing };
-      sizes = ap (λ n. spans-of f ++ drop n memory) m;
-      no-more = λ t.
-          let g = t .forest in
-          let w : post g ≡ h .passed ++ h .row ∷ [] = sym (t .listing) ∙ ap (take (i + 1)) r ∙ take-at (h .passed ++ h .row ∷ []) (h .left) (i + 1) q in
-          let s : scan cited rows [] ≡ scan cited (h .left) (spans-of g) = ap (λ x. scan cited x []) (r ∙ ap (λ x. x ++ h .left) (sym w)) ∙ scan-post cited g (h .left) [] 0 refl (t .citing) in
-          let l = scan-longer cited (h .left) (spans-of g) in
-          let v : length (scan cited (h .left) (spans-of g) .written) ≡ length (spans-of f) = ap (λ x. length (x .written)) (sym s ∙ h .ends) in
-          omega (arith, length-spans g, length-post g, ap length w);
+      stops = record {
+        within = w;
+        before = record { forest = f; listing = ap (take i) (h .parts) ∙ take-at (h .passed) (h .row ∷ h .left) i p ∙ sym (h .listing); citing = h .citing };
+        sizes = ap (λ n. spans-of f ++ drop n memory) (sym m);
+        no-more = λ t.
+            let g = t .forest in
+            let x : post g ≡ h .passed ++ h .row ∷ [] = sym (t .listing) ∙ ap (take (i + 1)) r ∙ take-at (h .passed ++ h .row ∷ []) (h .left) (i + 1) q in
+            let s : scan cited rows [] ≡ scan cited (h .left) (spans-of g) = ap (λ x. scan cited x []) (r ∙ ap (λ x. x ++ h .left) (sym x)) ∙ scan-post cited g (h .left) [] 0 refl (t .citing) in
+            let l = scan-longer cited (h .left) (spans-of g) in
+            let v : length (scan cited (h .left) (spans-of g) .written) ≡ length (spans-of f) = ap (λ x. length (x .written)) (sym s ∙ h .ends) in
+            omega (arith, length-spans g, length-post g, ap length x);
+      };
+      row-is = λ x e.
+          let k : Some x ≡ Some (h .row) = sym e ∙ nth-getD rows i (h .row) w ∙ ap Some (ap (λ xs. getD xs i (h .row)) (h .parts) ∙ getD-at (h .passed) (h .row) (h .left) (h .row) i p) in
+          cc;
     }
 
-pub divides-at : {R : Type 0} (cited : R → Option (List ℕ)) (rows : List R) (memory : List ℕ) (t : Through cited rows bare) → 0 < length rows → (i : ℕ) → division (whole (spans-of (t .forest))) ≡ Some i → Divides-at cited rows memory (spans-of (t .forest) ++ drop (length (spans-of (t .forest))) memory) i
+-- where it came through, and the rows list several trees
+pub divides-at : {R : Type 0} (cited : R → Option (List ℕ)) (rows : List R) (memory : List ℕ) (t : Through cited rows bare) → 0 < length rows → (i : ℕ) → whole (spans-of (t .forest)) ≡ Err (SeveralTrees i) → Divides-at cited rows memory (spans-of (t .forest) ++ drop (length (spans-of (t .forest))) memory) i
 divides-at cited rows memory t z i e =
     let f = t .forest in
     let n : length (spans-of f) ≡ length rows = length-spans f ∙ sym (length-post f) ∙ ap length (t .listing) in
-    let k : i ≡ length (spans-of f) - 1 = whole-divides (spans-of f) i e in
+    let k : SeveralTrees i ≡ SeveralTrees (length (spans-of f) - 1) = whole-fault (spans-of f) (SeveralTrees i) e in
+    let k′ : i ≡ length (spans-of f) - 1 = ap (λ x. screen-refusal x .place) k in
     record {
       last = omega arith;
       trees = record { forest = f; listing = sym (t .listing); citing = t .citing };
       sizes = ap (λ x. spans-of f ++ drop x memory) n;
-      not-one = λ u.
-          let a : Ok tt ≡ whole (spans-of f) = ap (λ x. x .answer) (sym (tree-scan cited rows u) ∙ t .ends) in
-          let b : None ≡ Some i = ap division a ∙ e in
-          none-of b;
+      not-one = λ u. ok-not-err (sym e ∙ ap (λ x. x .answer) (sym (t .ends) ∙ tree-scan cited rows u));
     }
 
--- a refusal at a row by either number
-pub either-stop : (answer : Result (Unit {0}) ScreenFault) (i : ℕ) → (answer ≡ Err (Unknown i)) ⊎ (answer ≡ Err (Citation i)) → stop answer ≡ Some i
-either-stop answer i (inl e) = ap stop e
-either-stop answer i (inr e) = ap stop e
-
 -- where there is no room
-pub without-room : {R : Type 0} (cited : R → Option (List ℕ)) (limit : ℕ) (rows : List R) (memory written : List ℕ) (fault : ScreenFault) → room-for limit (length rows) (length memory) ≡ Err fault → Screening-law cited limit rows memory (Err fault) written
-without-room cited limit rows memory written fault e =
-    let s = room-stops limit (length rows) (length memory) in
+room-size : (limit n memory : ℕ) → room-for limit n memory ≡ Err Size → (n ≡ 0) ⊎ (limit < n)
+room-size limit n memory e =
+    elim (room-fault limit n memory Size e) [ inl (_, w) ↦ w | inr (q, _) ↦ no-numbers Size Memory q (λ h. omega arith) ]
+
+room-memory : (limit n memory : ℕ) → room-for limit n memory ≡ Err Memory → memory < n
+room-memory limit n memory e =
+    elim (room-fault limit n memory Memory e) [ inl (q, _) ↦ no-numbers Memory Size q (λ h. omega arith) | inr (_, m) ↦ m ]
+
+room-number : (limit n memory : ℕ) (fault : ScreenFault) → room-for limit n memory ≡ Err fault → screen-refusal fault .number ≤ 22
+room-number limit n memory fault e =
+    elim (room-fault limit n memory fault e) [ inl (q, _) ↦ rw q (omega arith) | inr (q, _) ↦ rw q (omega arith) ]
+
+pub without-room : {R : Type 0} (cited : R → Option (List ℕ)) (limit : ℕ) (rows : List R) (memory : List ℕ) (fault : ScreenFault) → room-for limit (length rows) (length memory) ≡ Err fault → Screening-law cited limit rows memory (Err fault) memory
+without-room cited limit rows memory fault e =
+    let small : screen-refusal fault .number ≤ 22 = room-number limit (length rows) (length memory) fault e in
     record {
       only = λ k. ok-not-err k;
       every = λ t a b.
@@ -344,8 +350,11 @@ without-room cited limit rows memory written fault e =
           sym e ∙ is-room limit (length rows) (length memory) (omega arith) a b;
       sizes = λ k t. ok-not-err k;
       one = one-tree cited rows;
-      stops = λ i k. let b : None ≡ Some i = sym (s .0) ∙ ap stop e ∙ either-stop (Err fault) i k in none-of b;
-      divides = λ i k. let b : None ≡ Some i = sym (s .1) ∙ ap division e ∙ ap division k in none-of b;
+      wrong-size = λ k. (room-size limit (length rows) (length memory) (e ∙ k), refl);
+      wrong-memory = λ k. (room-memory limit (length rows) (length memory) (e ∙ k), refl);
+      malformed = λ i k. no-numbers fault (Malformed i) (same-fault fault (Malformed i) k) (λ h. omega arith);
+      miscited = λ i k. no-numbers fault (Citation i) (same-fault fault (Citation i) k) (λ h. omega arith);
+      several = λ i k. no-numbers fault (SeveralTrees i) (same-fault fault (SeveralTrees i) k) (λ h. omega arith);
     }
 
 -- where the scan came through
@@ -359,20 +368,52 @@ came-through cited limit rows memory room t =
       every = λ u a b. ap (λ x. x .answer) (sym (t .ends) ∙ tree-scan cited rows u);
       sizes = λ e u. ap (λ x. x ++ drop (length (spans-of f)) memory) (ap (λ x. x .written) (sym (t .ends) ∙ tree-scan cited rows u)) ∙ ap (λ x. spans-of (tree u) ++ drop x memory) n;
       one = one-tree cited rows;
-      stops = λ i k. let b : None ≡ Some i = sym (whole-stops (spans-of f)) ∙ either-stop (whole (spans-of f)) i k in none-of b;
-      divides = λ i k. divides-at cited rows memory t (r .0) i (ap division k);
+      wrong-size = λ k. no-numbers Size _ (whole-fault (spans-of f) Size k) (λ h. omega arith);
+      wrong-memory = λ k. no-numbers Memory _ (whole-fault (spans-of f) Memory k) (λ h. omega arith);
+      malformed = λ i k. no-numbers (Malformed i) _ (whole-fault (spans-of f) (Malformed i) k) (λ h. omega arith);
+      miscited = λ i k. no-numbers (Citation i) _ (whole-fault (spans-of f) (Citation i) k) (λ h. omega arith);
+      several = λ i k. divides-at cited rows memory t (r .0) i k;
     }
 
 -- where it stopped at a row
+halfway-number : {R : Type 0} (cited : R → Option (List ℕ)) (rows : List R) (h : Halfway cited rows bare) → (23 ≤ screen-refusal (h .fault) .number) × (screen-refusal (h .fault) .number ≤ 24)
+halfway-number cited rows h =
+    elim (next-fault (cited (h .row)) (spans-of (h .forest)) (h .fault) (h .refused)) [
+      | inl (q, _) ↦ (rw q (omega arith), rw q (omega arith))
+      | inr (q, _) ↦ (rw q (omega arith), rw q (omega arith))
+    ]
+
+halfway-malformed : {R : Type 0} (cited : R → Option (List ℕ)) (rows : List R) (memory : List ℕ) (h : Halfway cited rows bare) (i : ℕ) → h .fault ≡ Malformed i → Stops-at cited rows memory (spans-of (h .forest) ++ drop (length (spans-of (h .forest))) memory) i × ((r : R) → nth rows i ≡ Some r → cited r ≡ None)
+halfway-malformed cited rows memory h i k =
+    elim (next-fault (cited (h .row)) (spans-of (h .forest)) (h .fault) (h .refused)) [
+      | inl (q, none) ↦
+          let s = stopped-row cited rows memory h i (ap (λ x. screen-refusal x .place) (sym k ∙ q)) in
+          (s .stops, λ r e. ap cited (s .row-is r e) ∙ none)
+      | inr (q, _) ↦ no-numbers (Malformed i) _ (sym k ∙ q) (λ h. omega arith)
+    ]
+
+halfway-miscited : {R : Type 0} (cited : R → Option (List ℕ)) (rows : List R) (memory : List ℕ) (h : Halfway cited rows bare) (i : ℕ) → h .fault ≡ Citation i → Stops-at cited rows memory (spans-of (h .forest) ++ drop (length (spans-of (h .forest))) memory) i × ((r : R) → nth rows i ≡ Some r → cited r ≡ None → ⊥)
+halfway-miscited cited rows memory h i k =
+    elim (next-fault (cited (h .row)) (spans-of (h .forest)) (h .fault) (h .refused)) [
+      | inl (q, _) ↦ no-numbers (Citation i) _ (sym k ∙ q) (λ h. omega arith)
+      | inr (q, some) ↦
+          let s = stopped-row cited rows memory h i (ap (λ x. screen-refusal x .place) (sym k ∙ q)) in
+          (s .stops, λ r e n. some (ap cited (sym (s .row-is r e)) ∙ n))
+    ]
+
 pub came-halfway : {R : Type 0} (cited : R → Option (List ℕ)) (limit : ℕ) (rows : List R) (memory : List ℕ) (h : Halfway cited rows bare) → Screening-law cited limit rows memory (Err (h .fault)) (spans-of (h .forest) ++ drop (length (spans-of (h .forest))) memory)
 came-halfway cited limit rows memory h =
+    let (low, high) = halfway-number cited rows h in
     record {
       only = λ e. ok-not-err e;
       every = λ u a b. ap (λ x. x .answer) (sym (h .ends) ∙ tree-scan cited rows u);
       sizes = λ e u. ok-not-err e;
       one = one-tree cited rows;
-      stops = λ i k. stops-at cited rows memory h i (either-stop (Err (h .fault)) i k);
-      divides = λ i k. let b : None ≡ Some i = sym (next-stops (cited (h .row)) (spans-of (h .forest)) (h .fault) (h .refused) .1) ∙ ap division k in none-of b;
+      wrong-size = λ k. no-numbers (h .fault) Size (same-fault (h .fault) Size k) (λ e. omega arith);
+      wrong-memory = λ k. no-numbers (h .fault) Memory (same-fault (h .fault) Memory k) (λ e. omega arith);
+      malformed = λ i k. halfway-malformed cited rows memory h i (same-fault (h .fault) (Malformed i) k);
+      miscited = λ i k. halfway-miscited cited rows memory h i (same-fault (h .fault) (Citation i) k);
+      several = λ i k. no-numbers (h .fault) (SeveralTrees i) (same-fault (h .fault) (SeveralTrees i) k) (λ e. omega arith);
     }
 
 -- the law at a result that is that of the definition
@@ -390,7 +431,7 @@ screening-law cited limit rows memory =
           ]
       | inr (fault, room) ↦
           let s : screened cited limit rows memory ≡ record { answer = Err fault; written = memory } = rw room refl in
-          law-at cited limit rows memory _ _ s (without-room cited limit rows memory memory fault room)
+          law-at cited limit rows memory _ _ s (without-room cited limit rows memory fault room)
     ]
 
 -- what a call answers and leaves has the law, where both are those of the definition

@@ -1,7 +1,7 @@
 -- The scan of a table, row by row: what a turn of the loop keeps, and what an accepted row has.
 use mathlib.Core.Path.{_≡_, refl, sym, _∙_, ap}
 use mathlib.Core.Bool.{true, false}
-use mathlib.Core.Logic.{inl, inr}
+use mathlib.Core.Logic.{_⊎_, inl, inr}
 use mathlib.Core.List.{List, [], _∷_, _++_}
 use Prim.Native.Nat.{ℕ, _+_, _-_, _<_, _≤_}
 use native.Mathlib.Omega.{arith}
@@ -14,13 +14,28 @@ use Rattle.std.specs.declared.option.Option.the-variants.{Some, None}
 use Rattle.std.specs.declared.result.Result.{Result}
 use Rattle.std.specs.declared.result.Result.the-variants.{Ok, Err}
 use Rattle.screening.specs.declared.fault.ScreenFault.{ScreenFault}
-use Rattle.screening.specs.Screening.{Bounded, before, laid, total, if-some, span-of, or-citation, next-span, with-span, whole, scan, room-for, over, screened}
+use Rattle.screening.specs.Screening.{told, with-row, Bounded, before, laid, total, if-some, span-of, or-citation, next-span, with-span, whole, scan, room-for, over, screened}
 
 pub none-of : {X T : Type 0} {t : T} → None ≡ Some t → X
 none-of e = let z : _≡_ {A = ℕ} 0 1 = cc in let no : ⊥ = omega arith in absurd no
 
 pub not-ok : {X : Type 0} → false ≡ true → X
 not-ok e = let z : _≡_ {A = ℕ} 0 1 = cc in let no : ⊥ = omega arith in absurd no
+
+pub ok-not-err : {X E : Type 0} {fault : E} → _≡_ {A = Result (Unit {0}) E} (Err fault) (Ok tt) → X
+ok-not-err e = let z : _≡_ {A = ℕ} 0 1 = cc in let no : ⊥ = omega arith in absurd no
+
+pub cases-result : {T E : Type 0} (r : Result T E) → ((x : T) × (r ≡ Ok x)) ⊎ ((e : E) × (r ≡ Err e))
+cases-result (Ok x) = inl (x, refl)
+cases-result (Err e) = inr (e, refl)
+
+pub told-ok : (o : Result ℕ ScreenFault) → Ok tt ≡ told o → (s : ℕ) × (o ≡ Ok s)
+told-ok (Ok s) e = (s, refl)
+told-ok (Err fault) e = ok-not-err (sym e)
+
+pub told-err : (o : Result ℕ ScreenFault) (fault : ScreenFault) → Err fault ≡ told o → o ≡ Err fault
+told-err (Ok s) fault e = ok-not-err e
+told-err (Err other) fault e = let k : fault ≡ other = cc in ap Err (sym k)
 
 -- one citation that is where it has to be
 pub before-is : (done : List ℕ) (p : ℕ) (o : Option ℕ) (m : ℕ) → before done p o ≡ Some m → (n : ℕ) × (o ≡ Some n) × (p + 1 ≡ n) × (m ≡ n - getD done p 0)
@@ -91,15 +106,17 @@ here cited rows memory i spans inv r l e =
     let f : scan cited (drop i rows) (take i spans) ≡ scan cited (getD rows i r ∷ drop (i + 1) rows) (take i spans) = at-drop-more (λ rs. scan cited rs (take i spans)) rows i r l in
     sym (inv .left) ∙ f ∙ ap (λ x. with-span (take i spans) (next-span (cited x) (take i spans)) (λ s. scan cited (drop (i + 1) rows) (take i spans ++ s ∷ []))) (sym e)
 
-pub scanned-more : {R : Type 0} (cited : R → Option (List ℕ)) (rows : List R) (memory : List ℕ) (i : ℕ) (spans : List ℕ) → Scanned cited rows memory i spans → (r : R) → i < length rows → i < length spans → r ≡ getD rows i r → (s : ℕ) → Ok s ≡ next-span (cited r) (take i spans) → Scanned cited rows memory (i + 1) (set spans i s)
-scanned-more cited rows memory i spans inv r l m e s t =
+pub scanned-more : {R : Type 0} (cited : R → Option (List ℕ)) (rows : List R) (memory : List ℕ) (i : ℕ) (spans : List ℕ) → Scanned cited rows memory i spans → (r : R) → i < length rows → i < length spans → r ≡ getD rows i r → (after : List ℕ) → Ok tt ≡ told (next-span (cited r) (take i spans)) → after ≡ with-row spans i (next-span (cited r) (take i spans)) → Scanned cited rows memory (i + 1) after
+scanned-more cited rows memory i spans inv r l m e after t w =
+    let (s, o) = told-ok (next-span (cited r) (take i spans)) t in
+    let a : after ≡ set spans i s = w ∙ ap (with-row spans i) o in
     let f = here cited rows memory i spans inv r l e in
-    let g : with-span (take i spans) (next-span (cited r) (take i spans)) (λ s. scan cited (drop (i + 1) rows) (take i spans ++ s ∷ [])) ≡ scan cited (drop (i + 1) rows) (take i spans ++ s ∷ []) = rw (← t) refl in
-    let h : take (i + 1) (set spans i s) ≡ take i spans ++ s ∷ [] = take-more-set spans i s m in
+    let g : with-span (take i spans) (next-span (cited r) (take i spans)) (λ s. scan cited (drop (i + 1) rows) (take i spans ++ s ∷ [])) ≡ scan cited (drop (i + 1) rows) (take i spans ++ s ∷ []) = ap (λ x. with-span (take i spans) x (λ s. scan cited (drop (i + 1) rows) (take i spans ++ s ∷ []))) o in
+    let h : take (i + 1) after ≡ take i spans ++ s ∷ [] = ap (take (i + 1)) a ∙ take-more-set spans i s m in
     record {
       left = rw h (sym g ∙ sym f);
-      rest = drop-set-lt (i + 1) spans i s (omega arith) ∙ sym (drop-drop 1 i spans) ∙ ap (drop 1) (inv .rest) ∙ drop-drop 1 i memory;
-      bounded = rw h (bounded-next (cited r) (take i spans) s (inv .bounded) (sym t));
+      rest = ap (drop (i + 1)) a ∙ drop-set-lt (i + 1) spans i s (omega arith) ∙ sym (drop-drop 1 i spans) ∙ ap (drop 1) (inv .rest) ∙ drop-drop 1 i memory;
+      bounded = rw h (bounded-next (cited r) (take i spans) s (inv .bounded) o);
     }
 
 -- where the loop stops: the answer, and what the memory then holds
@@ -114,8 +131,8 @@ stopped cited limit rows memory i spans inv room m a e =
     let w : take i spans ++ drop (length (take i spans)) memory ≡ spans = rw n (rw (← inv .rest) (take-append-drop i spans)) in
     record { answer = sym (ap (λ x. x .answer) t); written = sym (ap (λ x. x .written) t ∙ w) }
 
-pub stopped-at-row : {R : Type 0} (cited : R → Option (List ℕ)) (rows : List R) (memory : List ℕ) (i : ℕ) (spans : List ℕ) → Scanned cited rows memory i spans → (r : R) → i < length rows → r ≡ getD rows i r → (fault : ScreenFault) → Err fault ≡ next-span (cited r) (take i spans) → scan cited rows [] ≡ record { answer = Err fault; written = take i spans }
-stopped-at-row cited rows memory i spans inv r l e fault q = here cited rows memory i spans inv r l e ∙ rw (← q) refl
+pub stopped-at-row : {R : Type 0} (cited : R → Option (List ℕ)) (rows : List R) (memory : List ℕ) (i : ℕ) (spans : List ℕ) → Scanned cited rows memory i spans → (r : R) → i < length rows → r ≡ getD rows i r → (fault : ScreenFault) → next-span (cited r) (take i spans) ≡ Err fault → scan cited rows [] ≡ record { answer = Err fault; written = take i spans }
+stopped-at-row cited rows memory i spans inv r l e fault o = here cited rows memory i spans inv r l e ∙ rw o refl
 
 pub stopped-at-end : {R : Type 0} (cited : R → Option (List ℕ)) (rows : List R) (memory : List ℕ) (i : ℕ) (spans : List ℕ) → Scanned cited rows memory i spans → length rows ≤ i → scan cited rows [] ≡ record { answer = whole (take i spans); written = take i spans }
 stopped-at-end cited rows memory i spans inv e = sym (inv .left) ∙ at-drop-all (λ rs. scan cited rs (take i spans)) rows i e

@@ -4,13 +4,13 @@ use mathlib.Core.Bool.{cond, _||_}
 use mathlib.Core.List.{List, [], _∷_, _++_}
 use Prim.Native.Nat.{ℕ, _+_, _-_, _<_, _≤_}
 use lib.Dec.{eqb, ltb}
-use lib.ListN.{length, getD, drop}
+use lib.ListN.{length, getD, set, drop}
 use Rattle.std.specs.declared.option.Option.{Option}
 use Rattle.std.specs.declared.option.Option.the-variants.{Some, None}
 use Rattle.std.specs.declared.result.Result.{Result}
 use Rattle.std.specs.declared.result.Result.the-variants.{Ok, Err}
 use Rattle.screening.specs.declared.fault.ScreenFault.{ScreenFault}
-use Rattle.screening.specs.declared.fault.ScreenFault.the-variants.{Size, Memory, Unknown, Citation, Divided}
+use Rattle.screening.specs.declared.fault.ScreenFault.the-variants.{Size, Memory, Malformed, Citation, SeveralTrees}
 
 -- No span passes its row: the tree of row k begins at row 0 or later.
 abbrev pub Bounded : List ℕ → Type 0
@@ -44,8 +44,17 @@ or-citation row (Some s) = Ok s
 
 -- the same, with the fault of a row that has none
 abbrev pub next-span : Option (List ℕ) → List ℕ → Result ℕ ScreenFault
-next-span None done = Err (Unknown (length done))
+next-span None done = Err (Malformed (length done))
 next-span (Some ps) done = or-citation (length done) (span-of done ps)
+
+-- whether a row has a span, and the memory after row i: with its span, or as it was
+abbrev pub told : Result ℕ ScreenFault → Result (Unit {0}) ScreenFault
+told (Err fault) = Err fault
+told (Ok s) = Ok tt
+
+abbrev pub with-row : List ℕ → ℕ → Result ℕ ScreenFault → List ℕ
+with-row spans i (Err fault) = spans
+with-row spans i (Ok s) = set spans i s
 
 pub record Screened : Type 0 where
   pub answer : Result (Unit {0}) ScreenFault
@@ -58,7 +67,7 @@ with-span done (Ok s) next = next s
 
 -- whether the last span covers every row
 abbrev pub whole : List ℕ → Result (Unit {0}) ScreenFault
-whole done = cond (eqb (getD done (length done - 1) 0) (length done)) (Ok tt) (Err (Divided (length done - 1)))
+whole done = cond (eqb (getD done (length done - 1) 0) (length done)) (Ok tt) (Err (SeveralTrees (length done - 1)))
 
 -- the rows that are left, after those whose spans are `done`
 abbrev pub scan : {R : Type 0} → (R → Option (List ℕ)) → List R → List ℕ → Screened

@@ -14,17 +14,16 @@ use Rattle.screening.specs.declared.fault.ScreenFault.the-variants.{Citation}
 use Rattle.screening.specs.Screening.{next-span, whole, room-for, screened}
 use Rattle.screening.specs.Trees.{spans-of, Lists, tree}
 
--- goes on where the span that is held is the row's; any other is refused as a citation of that row
-abbrev pub with-held : ℕ → ℕ → Result ℕ ScreenFault → Result (Unit {0}) ScreenFault → Result (Unit {0}) ScreenFault
-with-held row held (Err fault) next = Err fault
-with-held row held (Ok s) next = cond (eqb s held) next (Err (Citation row))
+-- whether the span held for a row is the one that it has; any other is refused as a citation of that row
+abbrev pub held-span : ℕ → ℕ → Result ℕ ScreenFault → Result (Unit {0}) ScreenFault
+held-span row held (Err fault) = Err fault
+held-span row held (Ok s) = cond (eqb s held) (Ok tt) (Err (Citation row))
 
 -- the rows that are left, after those whose spans are `done`, where `held` has the spans of all
 abbrev pub rescan : {R : Type 0} → (R → Option (List ℕ)) → List R → List ℕ → List ℕ → Result (Unit {0}) ScreenFault
 rescan cited [] done held = whole done
 rescan cited (r ∷ rs) done held =
-    with-held (length done) (getD held (length done) 0) (next-span (cited r) done)
-    (rescan cited rs (done ++ getD held (length done) 0 ∷ []) held)
+    andOther (held-span (length done) (getD held (length done) 0) (next-span (cited r) done)) (rescan cited rs (done ++ getD held (length done) 0 ∷ []) held)
 
 -- whether a table with these spans is one that screening accepts with these spans
 abbrev pub confirmed : {R : Type 0} → (R → Option (List ℕ)) → ℕ → List R → List ℕ → Result (Unit {0}) ScreenFault

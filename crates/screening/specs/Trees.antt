@@ -5,11 +5,12 @@ use mathlib.Core.List.{List, [], _∷_, _++_}
 use Prim.Native.Nat.{ℕ, _+_, _<_, _≤_}
 use lib.ListN.{length, drop, take}
 use Rattle.std.specs.declared.option.Option.{Option}
-use Rattle.std.specs.declared.option.Option.the-variants.{Some}
+use Rattle.std.specs.declared.option.Option.the-variants.{Some, None}
+use Rattle.std.specs.Runs.{nth}
 use Rattle.std.specs.declared.result.Result.{Result}
 use Rattle.std.specs.declared.result.Result.the-variants.{Ok, Err}
 use Rattle.screening.specs.declared.fault.ScreenFault.{ScreenFault}
-use Rattle.screening.specs.declared.fault.ScreenFault.the-variants.{Unknown, Citation, Divided}
+use Rattle.screening.specs.declared.fault.ScreenFault.the-variants.{Size, Memory, Malformed, Citation, SeveralTrees}
 
 -- Trees side by side: the first one's row, the trees below it, and the trees after it.
 pub data Forest (R : Type 0) : Type 0 where
@@ -71,12 +72,16 @@ pub record Divides-at {R : Type 0} (cited : R → Option (List ℕ)) (rows : Lis
   pub sizes : written ≡ spans-of (trees .forest) ++ drop (length rows) memory
   pub not-one : Lists cited rows → ⊥
 
--- What screening means. It accepts exactly the tables of lawful length, with memory enough, that list one tree. There is
--- one such tree, and the sizes of its subtrees are written. A refusal at a row says how far the rows list trees.
+-- What screening means. It accepts exactly the tables of 1 to `limit` rows, with memory enough, that list one tree. There
+-- is one such tree, and the sizes of its subtrees are written. A refusal says what is wrong: the length, the memory, a
+-- row that is not as its code asks, a row with which the rows no more list trees, or that they list several.
 pub record Screening-law {R : Type 0} (cited : R → Option (List ℕ)) (limit : ℕ) (rows : List R) (memory : List ℕ) (answer : Result (Unit {0}) ScreenFault) (written : List ℕ) : Type 0 where
   pub only : answer ≡ Ok tt → Lists cited rows × (length rows ≤ limit) × (length rows ≤ length memory)
   pub every : Lists cited rows → length rows ≤ limit → length rows ≤ length memory → answer ≡ Ok tt
   pub sizes : answer ≡ Ok tt → (t : Lists cited rows) → written ≡ spans-of (tree t) ++ drop (length rows) memory
   pub one : (s t : Lists cited rows) → tree s ≡ tree t
-  pub stops : (i : ℕ) → (answer ≡ Err (Unknown i)) ⊎ (answer ≡ Err (Citation i)) → Stops-at cited rows memory written i
-  pub divides : (i : ℕ) → answer ≡ Err (Divided i) → Divides-at cited rows memory written i
+  pub wrong-size : answer ≡ Err Size → ((length rows ≡ 0) ⊎ (limit < length rows)) × (written ≡ memory)
+  pub wrong-memory : answer ≡ Err Memory → (length memory < length rows) × (written ≡ memory)
+  pub malformed : (i : ℕ) → answer ≡ Err (Malformed i) → Stops-at cited rows memory written i × ((r : R) → nth rows i ≡ Some r → cited r ≡ None)
+  pub miscited : (i : ℕ) → answer ≡ Err (Citation i) → Stops-at cited rows memory written i × ((r : R) → nth rows i ≡ Some r → cited r ≡ None → ⊥)
+  pub several : (i : ℕ) → answer ≡ Err (SeveralTrees i) → Divides-at cited rows memory written i

@@ -2,18 +2,18 @@
 ghost use mathlib.Core.Path.{_≡_};
 ghost use Rattle.screening.specs.Refusals.{screen-refusal};
 
-#[derive(Clone, Copy, PartialEq, Eq, Debug)]
+#[derive(Clone, Copy)]
 pub enum ScreenFault {
     // no rows, or more than the longest table has
     Size,
     // fewer spans than rows
     Memory,
-    // a code that stands for nothing, or a field in use that the row has no use for
-    Unknown { row: u16 },
-    // a citation that is not the root of the tree next to be taken
+    // an unknown code, or an unused field that does not hold 65,535
+    Malformed { row: u16 },
+    // a citation that is not the row that it must be
     Citation { row: u16 },
     // the rows list several trees
-    Divided { row: u16 },
+    SeveralTrees { row: u16 },
 }
 
 impl ScreenFault {
@@ -24,9 +24,9 @@ impl ScreenFault {
         match self {
             ScreenFault::Size => 21,
             ScreenFault::Memory => 22,
-            ScreenFault::Unknown { row: _ } => 23,
+            ScreenFault::Malformed { row: _ } => 23,
             ScreenFault::Citation { row: _ } => 24,
-            ScreenFault::Divided { row: _ } => 25,
+            ScreenFault::SeveralTrees { row: _ } => 25,
         }
     }
 
@@ -36,9 +36,9 @@ impl ScreenFault {
     {
         match self {
             ScreenFault::Size | ScreenFault::Memory => 0,
-            ScreenFault::Unknown { row }
+            ScreenFault::Malformed { row }
             | ScreenFault::Citation { row }
-            | ScreenFault::Divided { row } => row,
+            | ScreenFault::SeveralTrees { row } => row,
         }
     }
 }

@@ -4,14 +4,14 @@ pub mod fault;
 
 ghost use mathlib.Core.Path.{_≡_};
 ghost use Prim.Native.Nat.{_+_, _<_, _≤_};
-ghost use lib.ListN.{length, take};
+ghost use lib.ListN.{length, getD, take};
 ghost use Rattle.std.specs.declared.result.Result.the-variants.{Ok};
 ghost use Rattle.std.specs.declared.option.Option.the-variants.{Some};
 ghost use Rattle.std.specs.Vec.{made};
 ghost use Rattle.rows.specs.Few.{listed};
-ghost use Rattle.screening.specs.Screening.{Bounded, before, laid, next-span, room-for, whole, screened};
+ghost use Rattle.screening.specs.Screening.{Bounded, before, laid, next-span, told, with-row, room-for, whole, screened};
 ghost use Rattle.screening.specs.Trees.{Screening-law};
-ghost use Rattle.screening.specs.Spans.{confirmed, Accepted, Spans-law};
+ghost use Rattle.screening.specs.Spans.{held-span, confirmed, Accepted, Spans-law};
 use crate::fault::ScreenFault;
 use rows::citing::Citing;
 use rows::few::Few;
@@ -58,12 +58,39 @@ fn next_span<R: Citing>(row: &R, done: &[u16]) -> Result<u16, ScreenFault>
 {
     let row_number = done.len() as u16;
     let Some(cited) = row.citations() else {
-        return Err(ScreenFault::Unknown { row: row_number });
+        return Err(ScreenFault::Malformed { row: row_number });
     };
     let Some(start) = start_of(done, cited) else {
         return Err(ScreenFault::Citation { row: row_number });
     };
     Ok((done.len() - start + 1) as u16)
+}
+
+// Writes the span of row i, if it has one.
+fn write_span<R: Citing>(row: &R, i: usize, spans: &mut [u16]) -> Result<(), ScreenFault>
+    requires bounded { ⌜ Bounded (take i (now spans)) ⌝ }
+    requires within { ⌜ i < length (now spans) ⌝ }
+    requires short { ⌜ i < 65535 ⌝ }
+    ensures answer { λ r. ⌜ r ≡ told (next-span (cited (now (row .entry))) (take i (now (spans .entry)))) ⌝ }
+    ensures memory { λ _. ⌜ now (spans .exit) ≡ with-row (now (spans .entry)) i (next-span (cited (now (row .entry))) (take i (now (spans .entry)))) ⌝ }
+{
+    let span = next_span(row, &spans[..i])?;
+    spans[i] = span;
+    Ok(())
+}
+
+// Whether the span held for row i is the one that it has.
+fn confirm_span<R: Citing>(row: &R, i: usize, spans: &[u16]) -> Result<(), ScreenFault>
+    requires bounded { ⌜ Bounded (take i (now spans)) ⌝ }
+    requires within { ⌜ i < length (now spans) ⌝ }
+    requires short { ⌜ i < 65535 ⌝ }
+    ensures { λ r. ⌜ r ≡ held-span i (getD (now (spans .entry)) i 0) (next-span (cited (now (row .entry))) (take i (now (spans .entry)))) ⌝ }
+{
+    let span = next_span(row, &spans[..i])?;
+    if span != spans[i] {
+        return Err(ScreenFault::Citation { row: i as u16 });
+    }
+    Ok(())
 }
 
 // Whether the table has a lawful length and its spans have room.
@@ -88,7 +115,7 @@ fn whole_table(spans: &[u16]) -> Result<(), ScreenFault>
 {
     let last = spans.len() - 1;
     if spans[last] as usize != spans.len() {
-        return Err(ScreenFault::Divided { row: last as u16 });
+        return Err(ScreenFault::SeveralTrees { row: last as u16 });
     }
     Ok(())
 }
@@ -102,7 +129,7 @@ pub fn screen<R: Citing>(rows: &[R], spans: &mut [u16]) -> Result<(), ScreenFaul
 {
     room_for(rows, spans)?;
     for i in 0..rows.len() {
-        spans[i] = next_span(&rows[i], &spans[..i])?;
+        write_span(&rows[i], i, spans)?;
     }
     whole_table(&spans[..rows.len()])
 }
@@ -116,10 +143,7 @@ pub fn confirm<R: Citing>(rows: &[R], spans: &[u16]) -> Result<(), ScreenFault>
 {
     room_for(rows, spans)?;
     for i in 0..rows.len() {
-        let span = next_span(&rows[i], &spans[..i])?;
-        if span != spans[i] {
-            return Err(ScreenFault::Citation { row: i as u16 });
-        }
+        confirm_span(&rows[i], i, spans)?;
     }
     whole_table(&spans[..rows.len()])
 }

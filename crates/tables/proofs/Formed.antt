@@ -1,11 +1,12 @@
 -- The rows form a program exactly when they are well-formed.
-use mathlib.Core.Path.{_≡_, refl, sym, _∙_, ap}
+use mathlib.Core.Path.{_≡_, refl, sym, _∙_, ap, subst}
 use mathlib.Core.Bool.{true}
 use mathlib.Core.Logic.{inl, inr}
 use mathlib.Core.List.{List, [], _∷_}
-use Prim.Native.Nat.{ℕ, zero, suc, _+_, _-_}
+use Prim.Native.Nat.{ℕ, zero, suc, _+_, _-_, _<_}
+use native.Mathlib.Omega.{arith}
 use lib.ListN.{length, take}
-use Rattle.std.proofs.shelf.Tests.{cases-bool, and-parts}
+use Rattle.std.proofs.shelf.Tests.{cases-bool, cases-lt, and-parts}
 use Rattle.std.specs.Runs.{nth}
 use Rattle.std.specs.Results.{isOk, andOther}
 use Rattle.std.specs.Vec.{made}
@@ -18,16 +19,19 @@ use Rattle.rows.specs.declared.syntax.Sort.the-variants.{Expression, Test, Comm
 use Rattle.rows.specs.declared.syntax.Kind.{Kind}
 use Rattle.rows.specs.declared.syntax.SyntaxRow.{SyntaxRow}
 use Rattle.screening.specs.declared.fault.ScreenFault.{ScreenFault}
-use Rattle.tables.specs.declared.forming.ProgramFault.{ProgramFault}
-use Rattle.tables.specs.declared.forming.ProgramFault.the-variants.{ChildSort, Datum, NotCommand}
+use Rattle.tables.specs.declared.fault.ProgramFault.{ProgramFault}
+use Rattle.tables.specs.declared.fault.ProgramFault.the-variants.{Screening, ChildSort, Datum, NotCommand}
 use Rattle.rows.specs.Fields.{in-order}
 use Rattle.rows.specs.Syntax.{kind-of, children-of, admitted}
-use Rattle.tables.specs.Forming.{sort-at, same-sort, is-of, sorted, formed-as, formed-row, ends-in-command, formed-from, formed, then-formed, Sorts, Formed-row, Well-formed}
-use Rattle.rows.specs.Citing.{syntax-cites}
-use Rattle.screening.specs.Spans.{Accepted, Spans-law}
-use Rattle.tables.specs.Screened.{Lawful-program, Program-law}
-use Rattle.screening.proofs.Scans.{none-of, not-ok}
-use Rattle.screening.proofs.Laws.{ok-not-err}
+use Rattle.tables.specs.Forming.{sort-at, same-sort, is-of, have-sorts, formed-as, formed-row, ends-in-command, formed-from, formed, then-formed, Sorts, Formed-row, Well-formed}
+use Rattle.rows.specs.Citing.{longest-program, children-cited, syntax-cites}
+use Rattle.rows.specs.declared.fields.Fields.{Fields}
+use Rattle.screening.specs.Spans.{confirmed, Accepted, Spans-law}
+use Rattle.tables.specs.Screened.{Lawful-program, Refused, Program-law}
+use Rattle.screening.proofs.Scans.{none-of, not-ok, ok-not-err, cases-result}
+use Rattle.screening.proofs.Forests.{length-post, all-cite}
+use Rattle.screening.specs.Trees.{size, Lists, tree}
+use Rattle.std.proofs.shelf.Maps.{nth-past}
 
 same-sort-is : (s t : Sort) → same-sort s t ≡ true → t ≡ s
 same-sort-is Expression Expression e = refl
@@ -52,14 +56,14 @@ is-of-is s (Some t) e = ap Some (same-sort-is s t e)
 is-of-self : (s : Sort) (o : Option Sort) → o ≡ Some s → is-of s o ≡ true
 is-of-self s o e = ap (is-of s) e ∙ same-sort-self s
 
-sorted-sorts : (rows : List SyntaxRow) (ss : List Sort) (ps : List ℕ) → sorted rows ss ps ≡ true → Sorts rows ss ps
+sorted-sorts : (rows : List SyntaxRow) (ss : List Sort) (ps : List ℕ) → have-sorts rows ss ps ≡ true → Sorts rows ss ps
 sorted-sorts rows [] ps e = tt
 sorted-sorts rows (s ∷ ss) [] e = not-ok e
 sorted-sorts rows (s ∷ ss) (p ∷ ps) e =
-    let (a, b) = and-parts (is-of s (sort-at rows p)) (sorted rows ss ps) e in
+    let (a, b) = and-parts (is-of s (sort-at rows p)) (have-sorts rows ss ps) e in
     (is-of-is s (sort-at rows p) a, sorted-sorts rows ss ps b)
 
-sorts-sorted : (rows : List SyntaxRow) (ss : List Sort) (ps : List ℕ) → Sorts rows ss ps → sorted rows ss ps ≡ true
+sorts-sorted : (rows : List SyntaxRow) (ss : List Sort) (ps : List ℕ) → Sorts rows ss ps → have-sorts rows ss ps ≡ true
 sorts-sorted rows [] ps h = refl
 sorts-sorted rows (s ∷ ss) [] h = absurd h
 sorts-sorted rows (s ∷ ss) (p ∷ ps) h = rw (is-of-self s (sort-at rows p) (h .0)) (sorts-sorted rows ss ps (h .1))
@@ -68,7 +72,7 @@ sorts-sorted rows (s ∷ ss) (p ∷ ps) h = rw (is-of-self s (sort-at rows p) (h
 formed-as-is : (rows : List SyntaxRow) (i : ℕ) (row : SyntaxRow) (o : Option Kind) → kind-of (row .kind) ≡ o → formed-as rows i row o ≡ Ok tt → Formed-row rows row
 formed-as-is rows i row None k e = ok-not-err e
 formed-as-is rows i row (Some kind) k e =
-    elim (cases-bool (sorted rows (children-of kind) (in-order (row .children)))) [
+    elim (cases-bool (have-sorts rows (children-of kind) (in-order (row .children)))) [
       | inl s ↦
           elim (cases-bool (admitted kind (row .datum))) [
             | inl d ↦ record { kind = kind; known = k; sorts = sorted-sorts rows (children-of kind) (in-order (row .children)) s; datum = d }
@@ -79,7 +83,7 @@ formed-as-is rows i row (Some kind) k e =
 
 is-formed-row : (rows : List SyntaxRow) (i : ℕ) (row : SyntaxRow) → Formed-row rows row → formed-row rows i row ≡ Ok tt
 is-formed-row rows i row h =
-    let s : sorted rows (children-of (h .kind)) (in-order (row .children)) ≡ true = sorts-sorted rows (children-of (h .kind)) (in-order (row .children)) (h .sorts) in
+    let s : have-sorts rows (children-of (h .kind)) (in-order (row .children)) ≡ true = sorts-sorted rows (children-of (h .kind)) (in-order (row .children)) (h .sorts) in
     let d = h .datum in
     ap (formed-as rows i row) (h .known) ∙ rw (s, d) refl
 
@@ -124,20 +128,107 @@ well-formed rows h =
     let c : is-of Command (sort-at rows (length rows - 1)) ≡ true = is-of-self Command (sort-at rows (length rows - 1)) (h .command) in
     is-formed-from rows 0 rows (h .each) (rw c refl)
 
--- what filling a place with a program means
+-- a row that is refused, after rows that are formed
+abbrev Before : List SyntaxRow → ℕ → Type 0
+Before rows i = (k : ℕ) (row : SyntaxRow) → k < i → nth rows k ≡ Some row → Formed-row rows row
+
+abbrev Known : List SyntaxRow → Type 0
+Known rows = (k : ℕ) (row : SyntaxRow) → nth rows k ≡ Some row → (kind : Kind) × (kind-of (row .kind) ≡ Some kind)
+
+is-refused : (rows : List SyntaxRow) (spans : List ℕ) (fault found : ProgramFault) → _≡_ {A = Result (Unit {0}) ProgramFault} (Err found) (Err fault) → Refused rows spans found → Refused rows spans fault
+is-refused rows spans fault found e h = let q : found ≡ fault = cc in subst (λ (f : ProgramFault). Refused rows spans f) q h
+
+row-refused : (rows : List SyntaxRow) (spans : List ℕ) (i : ℕ) (row : SyntaxRow) → nth rows i ≡ Some row → Before rows i → (kind : Kind) → kind-of (row .kind) ≡ Some kind → (fault : ProgramFault) → formed-row rows i row ≡ Err fault → Refused rows spans fault
+row-refused rows spans i row here before kind known fault e =
+    let e′ : formed-as rows i row (Some kind) ≡ Err fault = ap (formed-as rows i row) (sym known) ∙ e in
+    elim (cases-bool (have-sorts rows (children-of kind) (in-order (row .children)))) [
+      | inl s ↦
+          elim (cases-bool (admitted kind (row .datum))) [
+            | inl d ↦ let x : Ok tt ≡ Err fault = rw (s, d) at e′ in ok-not-err (sym x)
+            | inr d ↦
+                let x : Err (Datum i) ≡ Err fault = rw (s, d) at e′ in
+                is-refused rows spans fault (Datum i) x (record { before = before; row = row; here = here; kind = kind; known = known; sorts = sorted-sorts rows (children-of kind) (in-order (row .children)) s; wrong = d })
+          ]
+      | inr s ↦
+          let x : Err (ChildSort i) ≡ Err fault = rw s at e′ in
+          is-refused rows spans fault (ChildSort i) x (record { before = before; row = row; here = here; kind = kind; known = known; wrong = λ h. not-ok (sym s ∙ sorts-sorted rows (children-of kind) (in-order (row .children)) h) })
+    ]
+
+within : (rows : List SyntaxRow) (k : ℕ) (row : SyntaxRow) → nth rows k ≡ Some row → k < length rows
+within rows k row e = elim (cases-lt k (length rows)) [ inl l ↦ l | inr g ↦ none-of (sym (nth-past rows k g) ∙ e) ]
+
+end-refused : (rows : List SyntaxRow) (spans : List ℕ) → 0 < length rows → Before rows (length rows) → (fault : ProgramFault) → ends-in-command rows ≡ Err fault → Refused rows spans fault
+end-refused rows spans z before fault e =
+    elim (cases-bool (is-of Command (sort-at rows (length rows - 1)))) [
+      | inl t ↦ let x : Ok tt ≡ Err fault = rw t at e in ok-not-err (sym x)
+      | inr t ↦
+          let x : Err (NotCommand (length rows - 1)) ≡ Err fault = rw t at e in
+          is-refused rows spans fault (NotCommand (length rows - 1)) x (record { each = λ k row n. before k row (within rows k row n) n; last = omega arith; wrong = λ h. not-ok (sym t ∙ is-of-self Command (sort-at rows (length rows - 1)) h) })
+    ]
+
+before-more : (rows : List SyntaxRow) (i : ℕ) (row : SyntaxRow) → nth rows i ≡ Some row → Formed-row rows row → Before rows i → Before rows (i + 1)
+before-more rows i row here h before k x l n =
+    elim (cases-lt k i) [
+      | inl s ↦ before k x s n
+      | inr g ↦
+          let q : k ≡ i = omega arith in
+          let y : Some row ≡ Some x = sym here ∙ ap (nth rows) (sym q) ∙ n in
+          let w : row ≡ x = cc in
+          subst (λ (r : SyntaxRow). Formed-row rows r) w h
+    ]
+
+forming-refused : (rows : List SyntaxRow) (spans : List ℕ) → 0 < length rows → Known rows → (i : ℕ) (rs : List SyntaxRow) → i + length rs ≡ length rows → ((k : ℕ) → nth rs k ≡ nth rows (i + k)) → Before rows i → (fault : ProgramFault) → formed-from rows i rs ≡ Err fault → Refused rows spans fault
+forming-refused rows spans z known i [] n link before fault e =
+    let m : i ≡ length rows = omega arith in
+    end-refused rows spans z (subst (λ (j : ℕ). Before rows j) m before) fault e
+forming-refused rows spans z known i (r ∷ rs) n link before fault e =
+    let here : nth rows i ≡ Some r = ap (nth rows) (omega arith) ∙ sym (link 0) in
+    let (kind, k) = known i r here in
+    elim (cases-result (formed-row rows i r)) [
+      | inl (_, o) ↦
+          let e′ : formed-from rows (i + 1) rs ≡ Err fault = sym (ap (λ x. andOther x (formed-from rows (i + 1) rs)) o) ∙ e in
+          let on : (j : ℕ) → nth rs j ≡ nth rows (i + 1 + j) = λ j. link (suc j) ∙ ap (nth rows) (omega arith) in
+          forming-refused rows spans z known (i + 1) rs (omega arith) on (before-more rows i r here (formed-as-is rows i r (kind-of (r .kind)) refl o) before) fault e′
+      | inr (other, o) ↦
+          let x : Err other ≡ Err fault = sym (ap (λ x. andOther x (formed-from rows (i + 1) rs)) o) ∙ e in
+          let q : formed-row rows i r ≡ Err fault = o ∙ x in
+          row-refused rows spans i r here before kind k fault q
+    ]
+
+-- every kind is known among rows that list a tree
+kind-cites : (o : Option Kind) (fields : Fields) (ps : List ℕ) → children-cited o fields ≡ Some ps → (kind : Kind) × (o ≡ Some kind)
+kind-cites None fields ps e = none-of e
+kind-cites (Some kind) fields ps e = (kind, refl)
+
+all-known : (rows : List SyntaxRow) → Lists syntax-cites rows → Known rows
+all-known rows t k row n =
+    let (ps, c) = all-cite syntax-cites (tree t) 0 (t .citing) k row (ap (λ xs. nth xs k) (sym (t .listing)) ∙ n) in
+    kind-cites (kind-of (row .kind)) (row .children) ps c
+
+some-rows : (rows : List SyntaxRow) → Lists syntax-cites rows → 0 < length rows
+some-rows rows t = let n : length rows ≡ size (t .below) + (1 + 0) = ap length (t .listing) ∙ length-post (tree t) in omega arith
+
+-- what filling a slot with a program means
 and-formed : (a : Result (Unit {0}) ScreenFault) (rows : List SyntaxRow) → then-formed a rows ≡ Ok tt → (a ≡ Ok tt) × (formed rows ≡ Ok tt)
 and-formed (Ok tt) rows e = (refl, e)
 and-formed (Err fault) rows e = ok-not-err e
 
-pub program-law : (rows : List SyntaxRow) (spans : List ℕ) (confirmation : Result (Unit {0}) ScreenFault) → Spans-law syntax-cites 1024 rows spans confirmation → (answer : Result (Unit {0}) ProgramFault) → answer ≡ then-formed confirmation rows → Program-law rows spans answer
-program-law rows spans confirmation law answer e =
+then-refused : (rows : List SyntaxRow) (spans : List ℕ) (a : Result (Unit {0}) ScreenFault) → a ≡ confirmed syntax-cites longest-program rows spans → Spans-law syntax-cites longest-program rows spans a → (fault : ProgramFault) → then-formed a rows ≡ Err fault → Refused rows spans fault
+then-refused rows spans (Ok tt) c law fault e =
+    let t = law .only refl .lists in
+    forming-refused rows spans (some-rows rows t) (all-known rows t) 0 rows (omega arith) (λ k. ap (nth rows) (omega arith)) (λ k row l n. let no : ⊥ = omega arith in absurd no) fault e
+then-refused rows spans (Err other) c law fault e = is-refused rows spans fault (Screening other) e (sym c)
+
+pub program-law : (rows : List SyntaxRow) (spans : List ℕ) (a : Result (Unit {0}) ScreenFault) → a ≡ confirmed syntax-cites longest-program rows spans → Spans-law syntax-cites longest-program rows spans a → (answer : Result (Unit {0}) ProgramFault) → answer ≡ then-formed a rows → Program-law rows spans answer
+program-law rows spans a c law answer e =
     record {
-      screened-first = λ memory h. e ∙ ap (λ a. then-formed a rows) (law .screened-first memory h);
-      only = λ ok. let (a, b) = and-formed confirmation rows (sym e ∙ ok) in (law .only a, formed-well rows b);
-      every = λ t short rest h w. e ∙ ap (λ a. then-formed a rows) (law .every t short rest h) ∙ well-formed rows w;
+      screened-first = λ memory h. e ∙ ap (λ x. then-formed x rows) (law .screened-first memory h);
+      only = λ ok. let (x, y) = and-formed a rows (sym e ∙ ok) in (law .only x, formed-well rows y);
+      every = λ t short rest h w. e ∙ ap (λ x. then-formed x rows) (law .every t short rest h) ∙ well-formed rows w;
+      refused = λ fault k. then-refused rows spans a c law fault (sym e ∙ k);
     }
 
 -- and what is known where it accepts
-pub lawful-made : (rows : List SyntaxRow) (spans : List ℕ) (X : Type 0) → X → Accepted syntax-cites 1024 rows (take (length rows) spans) → (answer : Result (Unit {0}) ProgramFault) → answer ≡ formed rows → made answer (λ _. X × Lawful-program rows (take (length rows) spans))
+pub lawful-made : (rows : List SyntaxRow) (spans : List ℕ) (X : Type 0) → X → Accepted syntax-cites longest-program rows (take (length rows) spans) → (answer : Result (Unit {0}) ProgramFault) → answer ≡ formed rows → made answer (λ _. X × Lawful-program rows (take (length rows) spans))
 lawful-made rows spans X x a (Ok tt) e = (x, (a, sym (ap isOk e)))
 lawful-made rows spans X x a (Err fault) e = tt

@@ -3,7 +3,7 @@
 use mathlib.Core.Path.{_≡_}
 use mathlib.Core.Bool.{Bool, true, false, cond, _&&_}
 use mathlib.Core.List.{List, [], _∷_}
-use Prim.Native.Nat.{ℕ, _+_, _-_}
+use Prim.Native.Nat.{ℕ, _+_, _-_, _<_}
 use lib.ListN.{length}
 use Rattle.std.specs.Runs.{nth}
 use Rattle.std.specs.Results.{andOther}
@@ -16,8 +16,8 @@ use Rattle.rows.specs.declared.syntax.Sort.the-variants.{Expression, Test, Comm
 use Rattle.rows.specs.declared.syntax.Kind.{Kind}
 use Rattle.rows.specs.declared.syntax.SyntaxRow.{SyntaxRow}
 use Rattle.screening.specs.declared.fault.ScreenFault.{ScreenFault}
-use Rattle.tables.specs.declared.forming.ProgramFault.{ProgramFault}
-use Rattle.tables.specs.declared.forming.ProgramFault.the-variants.{Screening, ChildSort, Datum, NotCommand}
+use Rattle.tables.specs.declared.fault.ProgramFault.{ProgramFault}
+use Rattle.tables.specs.declared.fault.ProgramFault.the-variants.{Screening, ChildSort, Datum, NotCommand}
 use Rattle.rows.specs.Fields.{in-order}
 use Rattle.rows.specs.Syntax.{kind-of, sort-of, children-of, admitted}
 
@@ -49,15 +49,15 @@ is-of sort None = false
 is-of sort (Some other) = same-sort sort other
 
 -- whether the children are of these sorts, one by one
-abbrev pub sorted : List SyntaxRow → List Sort → List ℕ → Bool
-sorted rows [] ps = true
-sorted rows (s ∷ ss) [] = false
-sorted rows (s ∷ ss) (p ∷ ps) = is-of s (sort-at rows p) && sorted rows ss ps
+abbrev pub have-sorts : List SyntaxRow → List Sort → List ℕ → Bool
+have-sorts rows [] ps = true
+have-sorts rows (s ∷ ss) [] = false
+have-sorts rows (s ∷ ss) (p ∷ ps) = is-of s (sort-at rows p) && have-sorts rows ss ps
 
 abbrev pub formed-as : List SyntaxRow → ℕ → SyntaxRow → Option Kind → Result (Unit {0}) ProgramFault
 formed-as rows i row None = Err (ChildSort i)
 formed-as rows i row (Some kind) =
-    cond (sorted rows (children-of kind) (in-order (row .children)))
+    cond (have-sorts rows (children-of kind) (in-order (row .children)))
     (cond (admitted kind (row .datum)) (Ok tt) (Err (Datum i)))
     (Err (ChildSort i))
 
@@ -97,3 +97,28 @@ pub record Formed-row (rows : List SyntaxRow) (row : SyntaxRow) : Type 0 where
 pub record Well-formed (rows : List SyntaxRow) : Type 0 where
   pub each : (i : ℕ) (row : SyntaxRow) → nth rows i ≡ Some row → Formed-row rows row
   pub command : sort-at rows (length rows - 1) ≡ Some Command
+
+-- Row i has a child of another sort, and the rows before it are formed.
+pub record Wrong-sort (rows : List SyntaxRow) (i : ℕ) : Type 0 where
+  pub before : (k : ℕ) (row : SyntaxRow) → k < i → nth rows k ≡ Some row → Formed-row rows row
+  pub row : SyntaxRow
+  pub here : nth rows i ≡ Some row
+  pub kind : Kind
+  pub known : kind-of (row .kind) ≡ Some kind
+  pub wrong : Sorts rows (children-of kind) (in-order (row .children)) → ⊥
+
+-- Row i has a datum that its kind may not hold; its children are as they should be, and the rows before it are formed.
+pub record Wrong-datum (rows : List SyntaxRow) (i : ℕ) : Type 0 where
+  pub before : (k : ℕ) (row : SyntaxRow) → k < i → nth rows k ≡ Some row → Formed-row rows row
+  pub row : SyntaxRow
+  pub here : nth rows i ≡ Some row
+  pub kind : Kind
+  pub known : kind-of (row .kind) ≡ Some kind
+  pub sorts : Sorts rows (children-of kind) (in-order (row .children))
+  pub wrong : admitted kind (row .datum) ≡ false
+
+-- All rows are formed, and the last one, i, is not a command.
+pub record No-command (rows : List SyntaxRow) (i : ℕ) : Type 0 where
+  pub each : (k : ℕ) (row : SyntaxRow) → nth rows k ≡ Some row → Formed-row rows row
+  pub last : i + 1 ≡ length rows
+  pub wrong : sort-at rows i ≡ Some Command → ⊥

@@ -1,7 +1,7 @@
 -- The published number of each refusal of a program, and the place that it names.
 use Rattle.screening.specs.Refusals.{Refusal, screen-refusal}
-use Rattle.tables.specs.declared.forming.ProgramFault.{ProgramFault}
-use Rattle.tables.specs.declared.forming.ProgramFault.the-variants.{Screening, ChildSort, Datum, NotCommand}
+use Rattle.tables.specs.declared.fault.ProgramFault.{ProgramFault}
+use Rattle.tables.specs.declared.fault.ProgramFault.the-variants.{Screening, ChildSort, Datum, NotCommand}
 
 abbrev pub program-refusal : ProgramFault → Refusal
 program-refusal (Screening fault) = screen-refusal fault

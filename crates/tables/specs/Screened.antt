@@ -7,17 +7,18 @@ use lib.ListN.{length, take}
 use lib.IntN.{pos}
 use Rattle.std.specs.Results.{isOk}
 use Rattle.std.specs.declared.result.Result.{Result}
-use Rattle.std.specs.declared.result.Result.the-variants.{Ok}
+use Rattle.std.specs.declared.result.Result.the-variants.{Ok, Err}
 use Rattle.rows.specs.declared.fields.Fields.{Fields}
 use Rattle.rows.specs.declared.syntax.SyntaxRow.{SyntaxRow}
 use Rattle.rows.specs.declared.derivation.DerivationRow.{DerivationRow}
 use Rattle.screening.specs.declared.fault.ScreenFault.{ScreenFault}
-use Rattle.tables.specs.declared.forming.ProgramFault.{ProgramFault}
-use Rattle.rows.specs.Citing.{syntax-cites, derivation-cites}
+use Rattle.tables.specs.declared.fault.ProgramFault.{ProgramFault}
+use Rattle.tables.specs.declared.fault.ProgramFault.the-variants.{Screening, ChildSort, Datum, NotCommand}
+use Rattle.rows.specs.Citing.{longest-program, longest-derivation, syntax-cites, derivation-cites}
 use Rattle.screening.specs.Screening.{screened}
 use Rattle.screening.specs.Trees.{spans-of, Lists, tree}
 use Rattle.screening.specs.Spans.{confirmed, Accepted, Table-law}
-use Rattle.tables.specs.Forming.{formed, then-formed, Well-formed}
+use Rattle.tables.specs.Forming.{formed, then-formed, Well-formed, Wrong-sort, Wrong-datum, No-command}
 
 abbrev pub no-citations : Fields
 no-citations = record { first = 65535; second = 65535; third = 65535 }
@@ -32,22 +33,30 @@ skip-rule-row = record { rule = 10; syntax = 0; premises = no-citations; value =
 
 -- the rows and spans of a screened program, and of a screened derivation
 abbrev pub Lawful-program : List SyntaxRow → List ℕ → Type 0
-Lawful-program rows spans = Accepted syntax-cites 1024 rows spans × (isOk (formed rows) ≡ true)
+Lawful-program rows spans = Accepted syntax-cites longest-program rows spans × (isOk (formed rows) ≡ true)
 
 abbrev pub Lawful-derivation : List DerivationRow → List ℕ → Type 0
-Lawful-derivation rows spans = Accepted derivation-cites 2048 rows spans
+Lawful-derivation rows spans = Accepted derivation-cites longest-derivation rows spans
 
 -- the answer of filling a place: the spans have to be those that screening writes, and the rows have to form a program
 abbrev pub program-answer : List SyntaxRow → List ℕ → Result (Unit {0}) ProgramFault
-program-answer rows spans = then-formed (confirmed syntax-cites 1024 rows spans) rows
+program-answer rows spans = then-formed (confirmed syntax-cites longest-program rows spans) rows
 
 abbrev pub derivation-answer : List DerivationRow → List ℕ → Result (Unit {0}) ScreenFault
-derivation-answer rows spans = confirmed derivation-cites 2048 rows spans
+derivation-answer rows spans = confirmed derivation-cites longest-derivation rows spans
 
--- What filling a place with a program means. After a screening it gives the screening's answer, and where that accepted,
+-- what each refusal says of the rows
+abbrev pub Refused : List SyntaxRow → List ℕ → ProgramFault → Type 0
+Refused rows spans (Screening fault) = confirmed syntax-cites longest-program rows spans ≡ Err fault
+Refused rows spans (ChildSort i) = Wrong-sort rows i
+Refused rows spans (Datum i) = Wrong-datum rows i
+Refused rows spans (NotCommand i) = No-command rows i
+
+-- What filling a slot with a program means. After a screening it gives the screening's answer, and where that accepted,
 -- whether the rows form a program. It accepts exactly the well-formed tables of lawful length that list one tree, with
--- the sizes of the subtrees at the front of their spans.
+-- the sizes of the subtrees at the front of their spans. A refusal says what is wrong.
 pub record Program-law (rows : List SyntaxRow) (spans : List ℕ) (answer : Result (Unit {0}) ProgramFault) : Type 0 where
-  pub screened-first : (memory : List ℕ) → spans ≡ screened syntax-cites 1024 rows memory .written → answer ≡ then-formed (screened syntax-cites 1024 rows memory .answer) rows
-  pub only : answer ≡ Ok tt → Table-law syntax-cites 1024 rows (take (length rows) spans) × Well-formed rows
-  pub every : (t : Lists syntax-cites rows) → length rows ≤ 1024 → (rest : List ℕ) → spans ≡ spans-of (tree t) ++ rest → Well-formed rows → answer ≡ Ok tt
+  pub screened-first : (memory : List ℕ) → spans ≡ screened syntax-cites longest-program rows memory .written → answer ≡ then-formed (screened syntax-cites longest-program rows memory .answer) rows
+  pub only : answer ≡ Ok tt → Table-law syntax-cites longest-program rows (take (length rows) spans) × Well-formed rows
+  pub every : (t : Lists syntax-cites rows) → length rows ≤ longest-program → (rest : List ℕ) → spans ≡ spans-of (tree t) ++ rest → Well-formed rows → answer ≡ Ok tt
+  pub refused : (fault : ProgramFault) → answer ≡ Err fault → Refused rows spans fault

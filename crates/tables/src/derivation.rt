@@ -4,7 +4,7 @@ ghost use mathlib.Core.List.{[], _∷_};
 ghost use lib.ListN.{length, take};
 ghost use denote.Ref.{now};
 ghost use Rattle.std.specs.Results.{Cases};
-ghost use Rattle.rows.specs.Citing.{derivation-cites};
+ghost use Rattle.rows.specs.Citing.{longest-derivation, derivation-cites};
 ghost use Rattle.screening.specs.Spans.{Table-law, Spans-law};
 ghost use Rattle.tables.specs.Screened.{skip-rule-row, Lawful-derivation, derivation-answer};
 use rows::citing::DerivationCiting;
@@ -67,7 +67,7 @@ impl<'r, 's> Derivation<'r, 's> {
     pub fn fill(&mut self, raw: RawDerivation<'r, 's>) -> Result<(), ScreenFault>
         ensures answer { λ r. ⌜ r ≡ derivation-answer (now (raw .entry .rows)) (now (raw .entry .spans)) ⌝ }
         ensures place { λ r. ⌜ Cases r (λ _. (now (now (self .exit) .rows) ≡ now (raw .entry .rows)) × (now (now (self .exit) .spans) ≡ take (length (now (raw .entry .rows))) (now (raw .entry .spans)))) (λ _. now (self .exit) ≡ now (self .entry)) ⌝ }
-        ensures law { λ r. ⌜ Spans-law derivation-cites 2048 (now (raw .entry .rows)) (now (raw .entry .spans)) r ⌝ }
+        ensures law { λ r. ⌜ Spans-law derivation-cites longest-derivation (now (raw .entry .rows)) (now (raw .entry .spans)) r ⌝ }
     {
         let rows = raw.rows;
         let spans = raw.spans;
@@ -81,13 +81,13 @@ impl<'r, 's> Derivation<'r, 's> {
 
     // What is known of a screened derivation. It does nothing.
     fn known(&self)
-        ensures { λ _. ⌜ Table-law derivation-cites 2048 (now (now (self .entry) .rows)) (now (now (self .entry) .spans)) ⌝ }
+        ensures { λ _. ⌜ Table-law derivation-cites longest-derivation (now (now (self .entry) .rows)) (now (now (self .entry) .spans)) ⌝ }
     {}
 
     // The rows: they list one tree.
     pub fn rows(&self) -> &'r [DerivationRow]
         ensures same { λ r. ⌜ now r ≡ now (now (self .entry) .rows) ⌝ }
-        ensures law { λ r. ⌜ Table-law derivation-cites 2048 (now r) (now (now (self .entry) .spans)) ⌝ }
+        ensures law { λ r. ⌜ Table-law derivation-cites longest-derivation (now r) (now (now (self .entry) .spans)) ⌝ }
     {
         self.known();
         self.rows
@@ -96,7 +96,7 @@ impl<'r, 's> Derivation<'r, 's> {
     // The span of each row: the sizes of the subtrees.
     pub fn spans(&self) -> &'s [u16]
         ensures same { λ r. ⌜ now r ≡ now (now (self .entry) .spans) ⌝ }
-        ensures law { λ r. ⌜ Table-law derivation-cites 2048 (now (now (self .entry) .rows)) (now r) ⌝ }
+        ensures law { λ r. ⌜ Table-law derivation-cites longest-derivation (now (now (self .entry) .rows)) (now r) ⌝ }
     {
         self.known();
         self.spans

@@ -5,64 +5,14 @@ ghost use lib.ListN.{length};
 ghost use Rattle.std.specs.Runs.{nth};
 ghost use Rattle.rows.specs.Few.{listed};
 ghost use Rattle.rows.specs.Fields.{in-order};
-ghost use Rattle.tables.specs.Refusals.{program-refusal};
-ghost use Rattle.tables.specs.declared.forming.ProgramFault.the-variants.{Screening};
-ghost use Rattle.tables.specs.Forming.{is-of, sort-at, sorted, formed-row, ends-in-command, formed};
+ghost use Rattle.tables.specs.Forming.{is-of, sort-at, have-sorts, formed-row, ends-in-command, formed};
+use crate::fault::ProgramFault;
 use rows::few::Few;
 use rows::fields::Fields;
 use rows::syntax::Kind;
 use rows::syntax::Sort;
 use rows::syntax::SortPartialEq;
 use rows::syntax::SyntaxRow;
-use screening::fault::ScreenFault;
-use screening::fault::ScreenFaultDebug;
-use screening::fault::ScreenFaultPartialEq;
-
-#[derive(Clone, Copy, PartialEq, Eq, Debug)]
-pub enum ProgramFault {
-    // the rows do not list a tree
-    Screening(ScreenFault),
-    // a child is not of the sort that the row's kind asks for
-    ChildSort { row: u16 },
-    // a datum that the row's kind does not hold
-    Datum { row: u16 },
-    // the last row is not a command
-    NotCommand { row: u16 },
-}
-
-impl ProgramFault {
-    // The number under which the refusal is published.
-    pub fn number(self) -> u8
-        ensures { λ r. ⌜ r ≡ program-refusal self .number ⌝ }
-    {
-        match self {
-            ProgramFault::Screening(fault) => fault.number(),
-            ProgramFault::ChildSort { row: _ } => 26,
-            ProgramFault::Datum { row: _ } => 27,
-            ProgramFault::NotCommand { row: _ } => 28,
-        }
-    }
-
-    // The row at fault, or 0 where none is.
-    pub fn place(self) -> u16
-        ensures { λ r. ⌜ r ≡ program-refusal self .place ⌝ }
-    {
-        match self {
-            ProgramFault::Screening(fault) => fault.place(),
-            ProgramFault::ChildSort { row }
-            | ProgramFault::Datum { row }
-            | ProgramFault::NotCommand { row } => row,
-        }
-    }
-}
-
-pub impl From<ScreenFault> for ProgramFault as ScreeningFrom {
-    ghost converts = { λ fault made. made ≡ Screening fault };
-
-    fn from(fault: ScreenFault) -> ProgramFault {
-        ProgramFault::Screening(fault)
-    }
-}
 
 // The row of that number, if the table has it.
 fn row_at(rows: &[SyntaxRow], row: usize) -> Option<SyntaxRow>
@@ -94,8 +44,8 @@ fn is_of(rows: &[SyntaxRow], row: u16, sort: Sort) -> bool
 }
 
 // Whether the children are of these sorts, one by one.
-fn are_sorted(rows: &[SyntaxRow], children: Fields, sorts: Few<Sort>) -> bool
-    ensures { λ r. ⌜ r ≡ sorted (now (rows .entry)) (listed sorts) (in-order children) ⌝ }
+fn have_sorts(rows: &[SyntaxRow], children: Fields, sorts: Few<Sort>) -> bool
+    ensures { λ r. ⌜ r ≡ have-sorts (now (rows .entry)) (listed sorts) (in-order children) ⌝ }
 {
     let Fields {
         first,
@@ -113,13 +63,13 @@ fn are_sorted(rows: &[SyntaxRow], children: Fields, sorts: Few<Sort>) -> bool
 }
 
 // Whether row i stands among the rows as its kind asks.
-fn form_row(rows: &[SyntaxRow], i: u16, row: SyntaxRow) -> Result<(), ProgramFault>
+fn check_row(rows: &[SyntaxRow], i: u16, row: SyntaxRow) -> Result<(), ProgramFault>
     ensures { λ r. ⌜ r ≡ formed-row (now (rows .entry)) i row ⌝ }
 {
     let Some(kind) = Kind::of(row.kind) else {
         return Err(ProgramFault::ChildSort { row: i });
     };
-    if !are_sorted(rows, row.children, kind.children()) {
+    if !have_sorts(rows, row.children, kind.children()) {
         return Err(ProgramFault::ChildSort { row: i });
     }
     if !kind.admits(row.datum) {
@@ -128,7 +78,7 @@ fn form_row(rows: &[SyntaxRow], i: u16, row: SyntaxRow) -> Result<(), ProgramFau
     Ok(())
 }
 
-fn end_in_command(rows: &[SyntaxRow]) -> Result<(), ProgramFault>
+fn check_end(rows: &[SyntaxRow]) -> Result<(), ProgramFault>
     requires some { ⌜ 0 < length (now rows) ⌝ }
     requires short { ⌜ length (now rows) < 65536 ⌝ }
     ensures { λ r. ⌜ r ≡ ends-in-command (now (rows .entry)) ⌝ }
@@ -141,13 +91,13 @@ fn end_in_command(rows: &[SyntaxRow]) -> Result<(), ProgramFault>
 }
 
 // Whether the rows form a program; a refusal is at the first row that does not stand as its kind asks.
-pub(crate) fn form(rows: &[SyntaxRow]) -> Result<(), ProgramFault>
+pub(crate) fn check_rows(rows: &[SyntaxRow]) -> Result<(), ProgramFault>
     requires some { ⌜ 0 < length (now rows) ⌝ }
     requires short { ⌜ length (now rows) < 65536 ⌝ }
     ensures { λ r. ⌜ r ≡ formed (now (rows .entry)) ⌝ }
 {
     for (i, row) in rows.iter().enumerate() {
-        form_row(rows, i as u16, *row)?;
+        check_row(rows, i as u16, *row)?;
     }
-    end_in_command(rows)
+    check_end(rows)
 }

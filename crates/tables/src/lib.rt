@@ -1,4 +1,5 @@
 // Screened tables: programs, whose rows also have to form one, and derivations.
 pub mod derivation;
-pub mod forming;
+pub mod fault;
+mod forming;
 pub mod program;

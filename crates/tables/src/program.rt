@@ -6,13 +6,13 @@ ghost use lib.ListN.{length, take};
 ghost use denote.Ref.{now};
 ghost use Rattle.std.specs.Results.{Cases};
 ghost use Rattle.std.specs.Vec.{made};
-ghost use Rattle.rows.specs.Citing.{syntax-cites};
+ghost use Rattle.rows.specs.Citing.{longest-program, syntax-cites};
 ghost use Rattle.screening.specs.Spans.{Table-law};
 ghost use Rattle.tables.specs.Forming.{Well-formed};
 ghost use Rattle.tables.specs.Screened.{skip-row, Lawful-program, program-answer, Program-law};
-use crate::forming::ProgramFault;
-use crate::forming::ScreeningFrom;
-use crate::forming::form;
+use crate::fault::ProgramFault;
+use crate::fault::ScreeningFrom;
+use crate::forming::check_rows;
 use rows::citing::SyntaxCiting;
 use rows::fields::Fields;
 use rows::fields::UNUSED;
@@ -26,7 +26,7 @@ fn admit(rows: &[SyntaxRow], spans: &[u16]) -> Result<(), ProgramFault>
     ensures admits { λ r. ⌜ made r (λ _. (length (now (rows .entry)) ≤ length (now (spans .entry))) × Lawful-program (now (rows .entry)) (take (length (now (rows .entry))) (now (spans .entry)))) ⌝ }
 {
     confirm(rows, spans)?;
-    form(rows)
+    check_rows(rows)
 }
 
 // A table that may be a program, with the spans that a screening wrote for it.
@@ -95,14 +95,14 @@ impl<'r, 's> Program<'r, 's> {
 
     // What is known of a screened program. It does nothing.
     fn known(&self)
-        ensures law { λ _. ⌜ Table-law syntax-cites 1024 (now (now (self .entry) .rows)) (now (now (self .entry) .spans)) ⌝ }
+        ensures law { λ _. ⌜ Table-law syntax-cites longest-program (now (now (self .entry) .rows)) (now (now (self .entry) .spans)) ⌝ }
         ensures formed { λ _. ⌜ Well-formed (now (now (self .entry) .rows)) ⌝ }
     {}
 
     // The rows: they list one tree, and form a program.
     pub fn rows(&self) -> &'r [SyntaxRow]
         ensures same { λ r. ⌜ now r ≡ now (now (self .entry) .rows) ⌝ }
-        ensures law { λ r. ⌜ Table-law syntax-cites 1024 (now r) (now (now (self .entry) .spans)) ⌝ }
+        ensures law { λ r. ⌜ Table-law syntax-cites longest-program (now r) (now (now (self .entry) .spans)) ⌝ }
         ensures formed { λ r. ⌜ Well-formed (now r) ⌝ }
     {
         self.known();
@@ -112,7 +112,7 @@ impl<'r, 's> Program<'r, 's> {
     // The span of each row: the sizes of the subtrees.
     pub fn spans(&self) -> &'s [u16]
         ensures same { λ r. ⌜ now r ≡ now (now (self .entry) .spans) ⌝ }
-        ensures law { λ r. ⌜ Table-law syntax-cites 1024 (now (now (self .entry) .rows)) (now r) ⌝ }
+        ensures law { λ r. ⌜ Table-law syntax-cites longest-program (now (now (self .entry) .rows)) (now r) ⌝ }
     {
         self.known();
         self.spans

@@ -11,26 +11,23 @@ use Rattle.screening.specs.Spans.{confirmed}
 use Rattle.screening.proofs.Held.{made-always, at-row, rescanned-more, spans-law, confirmed-end}
 use Rattle.screening.proofs.confirm.Needs as need
 
-pub returns-in-Break-span : need.returns-in-Break-span
-returns-in-Break-span g c =
+pub confirm-span-requires : need.confirm-span-requires
+confirm-span-requires g c κs =
     let fits = c .in-Continue-room-for .ensures tt .fits in
-    let p = err-from-errBy (c .from-residual-in-Break-span .result) (c .from-residual-in-Break-span .ensures .1) in
-    let e = at-row (g .R·Citing .cited) (c .args .rows .now) (c .loop-i .i) (c .args .spans .now) (c .loop-i .inv) (c .index-rows-i .result) (c .loop-i-test .taken) (omega arith) (c .index-rows-i .is) in
-    let a : Err (c .in-Break-span .field-0 .0) ≡ confirmed (g .R·Citing .cited) (g .R·Citing .limit) (c .args .rows .now) (c .args .spans .now) = sym (rw (← c .in-Continue-room-for .ensures tt .answer) (e ∙ rw (← c .in-Break-span .ensures tt) refl)) in
-    rw (p .1, p .2) (record { answer = a; fits = tt; law = spans-law _ _ _ _ _ a tt; accepted = tt })
+    record { bounded = c .loop-i .inv .scanned .bounded; within = omega arith; short = omega (arith, g .R·Citing·met .limited) }
 
-pub returns-then-span-spans : need.returns-then-span-spans
-returns-then-span-spans g c =
+pub returns-in-Break-confirm-span : need.returns-in-Break-confirm-span
+returns-in-Break-confirm-span g c =
     let fits = c .in-Continue-room-for .ensures tt .fits in
+    let p = err-from-errBy (c .from-residual-in-Break-confirm-span .result) (c .from-residual-in-Break-confirm-span .ensures .1) in
     let e = at-row (g .R·Citing .cited) (c .args .rows .now) (c .loop-i .i) (c .args .spans .now) (c .loop-i .inv) (c .index-rows-i .result) (c .loop-i-test .taken) (omega arith) (c .index-rows-i .is) in
-    let b : eqb (c .in-Continue-span .span) (getD (c .args .spans .now) (c .loop-i .i) 0) ≡ false = ne-eqb _ _ (c .if-span-spans .taken) in
-    let a : Err (Citation (c .loop-i .i)) ≡ confirmed (g .R·Citing .cited) (g .R·Citing .limit) (c .args .rows .now) (c .args .spans .now) = sym (rw (← c .in-Continue-room-for .ensures tt .answer) (e ∙ rw (← c .in-Continue-span .ensures tt) (rw b refl))) in
-    record { answer = a; fits = tt; law = spans-law _ _ _ _ _ a tt; accepted = tt }
+    let a : Err (c .in-Break-confirm-span .field-0 .0) ≡ confirmed (g .R·Citing .cited) (g .R·Citing .limit) (c .args .rows .now) (c .args .spans .now) = sym (rw (← c .in-Continue-room-for .ensures tt .answer) (e ∙ rw (← c .in-Break-confirm-span .ensures tt) refl)) in
+    rw (p .1, p .2) (record { answer = a; fits = tt; law = spans-law _ _ _ _ _ a tt; accepted = tt })
 
 pub loop-i-again : need.loop-i-again
 loop-i-again g c =
     let fits = c .in-Continue-room-for .ensures tt .fits in
-    rescanned-more (g .R·Citing .cited) (c .args .rows .now) (c .loop-i .i) (c .args .spans .now) (c .loop-i .inv) (c .index-rows-i .result) (c .loop-i-test .taken) (omega arith) (c .index-rows-i .is) (c .in-Continue-span .span) (c .in-Continue-span .ensures tt) (c .if-span-spans .left)
+    rescanned-more (g .R·Citing .cited) (c .args .rows .now) (c .loop-i .i) (c .args .spans .now) (c .loop-i .inv) (c .index-rows-i .result) (c .loop-i-test .taken) (omega arith) (c .index-rows-i .is) (c .in-Continue-confirm-span .ensures tt)
 
 pub returns : need.returns
 returns g c =

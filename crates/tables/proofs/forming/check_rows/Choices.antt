@@ -1,7 +1,7 @@
 use mathlib.Core.Path.{_≡_}
 use lib.ListN.{drop}
 use Rattle.tables.specs.Forming.{formed-from, formed}
-use Rattle.tables.proofs.forming.form.Given as given
+use Rattle.tables.proofs.forming.check_rows.Given as given
 
 -- what is left gives the whole
 abbrev pub Inv-loop-i : given.InvT-loop-i
