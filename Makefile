@@ -1,5 +1,6 @@
 # make run    proves, builds and runs the demonstration
-# make test   everything the gate does: what must not build, then every proof, edit, program and test from nothing
+# make test   everything the gate does: what must not build, the stored answers against the rules, and then every proof,
+#             edit, program and test from nothing
 
 .PHONY: run test
 
@@ -10,4 +11,5 @@ run:
 
 test:
 	tests/must-not-build/run
+	tests/oracle/screening
 	rt ci

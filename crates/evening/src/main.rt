@@ -14,9 +14,9 @@ use tables::program::Program;
 use tables::program::RawProgram;
 
 fn show_program(rt: &impl Print, rows: &[SyntaxRow], spans: &[u16]) -> io::Result<()> {
-    let mut place = Program::skip();
-    match place.fill(RawProgram::new(rows, spans)) {
-        Ok(()) => display::program(rt, &place),
+    let mut slot = Program::skip();
+    match slot.fill(RawProgram::new(rows, spans)) {
+        Ok(()) => display::program(rt, &slot),
         Err(fault) => display::refused(rt, "program", fault.number(), fault.place()),
     }
 }
@@ -30,9 +30,9 @@ fn load_program(rt: &impl Print, rows: &[SyntaxRow], spans: &mut [u16]) -> io::R
 }
 
 fn show_derivation(rt: &impl Print, rows: &[DerivationRow], spans: &[u16]) -> io::Result<()> {
-    let mut place = Derivation::skip();
-    match place.fill(RawDerivation::new(rows, spans)) {
-        Ok(()) => display::derivation(rt, &place),
+    let mut slot = Derivation::skip();
+    match slot.fill(RawDerivation::new(rows, spans)) {
+        Ok(()) => display::derivation(rt, &slot),
         Err(fault) => display::refused(rt, "table", fault.number(), fault.place()),
     }
 }

@@ -17,7 +17,7 @@ use Rattle.std.specs.declared.result.Result.{Result}
 use Rattle.std.specs.declared.result.Result.the-variants.{Ok, Err}
 use Rattle.screening.specs.declared.fault.ScreenFault.{ScreenFault}
 use Rattle.screening.specs.declared.fault.ScreenFault.the-variants.{Citation}
-use Rattle.screening.specs.Screening.{next-span, with-span, whole, scan, room-for, over, screened}
+use Rattle.screening.specs.Screening.{next-span, with-span, whole, scan, room-for, Fits, over, screened}
 use Rattle.screening.specs.Spans.{held-span, rescan, confirmed, Accepted, Table-law, Spans-law}
 use Rattle.screening.proofs.Scans.{not-ok, ok-not-err, cases-result, bounded-next, Scanned, scanned-none, here, stopped-at-end}
 use Rattle.screening.specs.Trees.{size, spans-of, Lists, tree}
@@ -85,8 +85,8 @@ made-always x (Ok _) = x
 made-always x (Err _) = tt
 
 -- what is known where the loop came to its end
-pub accepted-made : {R : Type 0} (cited : R → Option (List ℕ)) (limit : ℕ) (rows : List R) (spans : List ℕ) → (0 < length rows) × (length rows ≤ limit) × (length rows ≤ length spans) → scan cited rows [] ≡ record { answer = whole (take (length rows) spans); written = take (length rows) spans } → (r : Result (Unit {0}) ScreenFault) → r ≡ whole (take (length rows) spans) → made r (λ _. Accepted cited limit rows (take (length rows) spans))
-accepted-made cited limit rows spans fits s (Ok tt) e = accepted-cut cited limit rows spans (fits .0) (fits .1) (fits .2) (s ∙ ap (λ a. record { answer = a; written = take (length rows) spans }) (sym e))
+pub accepted-made : {R : Type 0} (cited : R → Option (List ℕ)) (limit : ℕ) (rows : List R) (spans : List ℕ) → Fits limit (length rows) (length spans) → scan cited rows [] ≡ record { answer = whole (take (length rows) spans); written = take (length rows) spans } → (r : Result (Unit {0}) ScreenFault) → r ≡ whole (take (length rows) spans) → made r (λ _. Accepted cited limit rows (take (length rows) spans))
+accepted-made cited limit rows spans fits s (Ok tt) e = accepted-cut cited limit rows spans (fits .some) (fits .short) (fits .room) (s ∙ ap (λ a. record { answer = a; written = take (length rows) spans }) (sym e))
 accepted-made cited limit rows spans fits s (Err fault) e = tt
 
 -- what a scan writes begins with what was written before it
@@ -180,7 +180,7 @@ pub record Confirmed {R : Type 0} (cited : R → Option (List ℕ)) (limit : ℕ
   pub answer : r ≡ confirmed cited limit rows spans
   pub accepted : made r (λ _. Accepted cited limit rows (take (length rows) spans))
 
-pub confirmed-end : {R : Type 0} (cited : R → Option (List ℕ)) (limit : ℕ) (rows : List R) (i : ℕ) (spans : List ℕ) → Rescanned cited rows i spans → i ≡ length rows → (0 < length rows) × (length rows ≤ limit) × (length rows ≤ length spans) → Ok tt ≡ room-for limit (length rows) (length spans) → (r : Result (Unit {0}) ScreenFault) → r ≡ whole (take (length rows) spans) → Confirmed cited limit rows spans r
+pub confirmed-end : {R : Type 0} (cited : R → Option (List ℕ)) (limit : ℕ) (rows : List R) (i : ℕ) (spans : List ℕ) → Rescanned cited rows i spans → i ≡ length rows → Fits limit (length rows) (length spans) → Ok tt ≡ room-for limit (length rows) (length spans) → (r : Result (Unit {0}) ScreenFault) → r ≡ whole (take (length rows) spans) → Confirmed cited limit rows spans r
 confirmed-end cited limit rows i spans inv n fits room r e =
     let s : scan cited rows [] ≡ record { answer = whole (take i spans); written = take i spans } = stopped-at-end cited rows spans i spans (inv .scanned) (omega arith) in
     let t : rescan cited rows [] spans ≡ whole (take i spans) = sym (inv .left) ∙ at-drop-all (λ rs. rescan cited rs (take i spans) spans) rows i (omega arith) in

@@ -17,7 +17,7 @@ use Rattle.std.specs.declared.result.Result.{Result}
 use Rattle.std.specs.declared.result.Result.the-variants.{Ok, Err}
 use Rattle.screening.specs.declared.fault.ScreenFault.{ScreenFault}
 use Rattle.screening.specs.declared.fault.ScreenFault.the-variants.{Size, Memory, Malformed, Citation, SeveralTrees}
-use Rattle.screening.specs.Screening.{laid, total, span-of, or-citation, next-span, Screened, with-span, whole, scan, room-for, over, screened}
+use Rattle.screening.specs.Screening.{laid, total, span-of, or-citation, next-span, Screened, with-span, whole, scan, room-for, Fits, over, screened}
 use Rattle.screening.specs.Trees.{Forest, bare, plant, size, post, spans-of, roots, Cites, Lists, tree, Stops-at, Divides-at, Screening-law}
 use Rattle.screening.specs.Refusals.{screen-refusal}
 use Rattle.screening.proofs.Scans.{none-of, ok-not-err, cases-result, if-some-is, placed}
@@ -116,7 +116,7 @@ progress cited (r ∷ rs) f k =
     ]
 
 -- past the two tests of sizes
-pub room-is : (limit n memory : ℕ) → room-for limit n memory ≡ Ok tt → (0 < n) × (n ≤ limit) × (n ≤ memory)
+pub room-is : (limit n memory : ℕ) → room-for limit n memory ≡ Ok tt → Fits limit n memory
 room-is limit n memory e =
     elim (cases-bool (eqb n 0 || ltb limit n)) [
       | inl t ↦ let k : Err Size ≡ Ok tt = rw t at e in ok-not-err k
@@ -125,7 +125,7 @@ room-is limit n memory e =
           let z : n ≡ 0 → ⊥ = eqb-false n 0 (parts .0) in
           elim (cases-bool (ltb memory n)) [
             | inl t ↦ let k : Err Memory ≡ Ok tt = rw (f, t) at e in ok-not-err k
-            | inr d ↦ (omega arith, ltb-false _ _ (parts .1), ltb-false _ _ d)
+            | inr d ↦ record { some = omega arith; short = ltb-false _ _ (parts .1); room = ltb-false _ _ d }
           ]
     ]
 
@@ -364,7 +364,7 @@ came-through cited limit rows memory room t =
     let f = t .forest in
     let n : length (spans-of f) ≡ length rows = length-spans f ∙ sym (length-post f) ∙ ap length (t .listing) in
     record {
-      only = λ e. (only-tree cited rows f (r .0) (t .listing) (t .citing) e, r .1, r .2);
+      only = λ e. (only-tree cited rows f (r .some) (t .listing) (t .citing) e, r .short, r .room);
       every = λ u a b. ap (λ x. x .answer) (sym (t .ends) ∙ tree-scan cited rows u);
       sizes = λ e u. ap (λ x. x ++ drop (length (spans-of f)) memory) (ap (λ x. x .written) (sym (t .ends) ∙ tree-scan cited rows u)) ∙ ap (λ x. spans-of (tree u) ++ drop x memory) n;
       one = one-tree cited rows;
@@ -372,7 +372,7 @@ came-through cited limit rows memory room t =
       wrong-memory = λ k. no-numbers Memory _ (whole-fault (spans-of f) Memory k) (λ h. omega arith);
       malformed = λ i k. no-numbers (Malformed i) _ (whole-fault (spans-of f) (Malformed i) k) (λ h. omega arith);
       miscited = λ i k. no-numbers (Citation i) _ (whole-fault (spans-of f) (Citation i) k) (λ h. omega arith);
-      several = λ i k. divides-at cited rows memory t (r .0) i k;
+      several = λ i k. divides-at cited rows memory t (r .some) i k;
     }
 
 -- where it stopped at a row

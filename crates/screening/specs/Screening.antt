@@ -79,6 +79,12 @@ abbrev pub room-for : ℕ → ℕ → ℕ → Result (Unit {0}) ScreenFault
 room-for limit rows memory =
     cond (eqb rows 0 || ltb limit rows) (Err Size) (cond (ltb memory rows) (Err Memory) (Ok tt))
 
+-- a table that may
+pub record Fits (limit rows memory : ℕ) : Type 0 where
+  pub some : 0 < rows
+  pub short : rows ≤ limit
+  pub room : rows ≤ memory
+
 -- what is written stands at the front of the memory
 abbrev pub over : Screened → List ℕ → Screened
 over s memory = record { answer = s .answer; written = s .written ++ drop (length (s .written)) memory }

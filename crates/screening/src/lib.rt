@@ -9,7 +9,7 @@ ghost use Rattle.std.specs.declared.result.Result.the-variants.{Ok};
 ghost use Rattle.std.specs.declared.option.Option.the-variants.{Some};
 ghost use Rattle.std.specs.Vec.{made};
 ghost use Rattle.rows.specs.Few.{listed};
-ghost use Rattle.screening.specs.Screening.{Bounded, before, laid, next-span, told, with-row, room-for, whole, screened};
+ghost use Rattle.screening.specs.Screening.{Bounded, before, laid, next-span, told, with-row, room-for, Fits, whole, screened};
 ghost use Rattle.screening.specs.Trees.{Screening-law};
 ghost use Rattle.screening.specs.Spans.{held-span, confirmed, Accepted, Spans-law};
 use crate::fault::ScreenFault;
@@ -74,8 +74,8 @@ fn write_span<R: Citing>(row: &R, i: usize, spans: &mut [u16]) -> Result<(), Scr
     ensures answer { λ r. ⌜ r ≡ told (next-span (cited (now (row .entry))) (take i (now (spans .entry)))) ⌝ }
     ensures memory { λ _. ⌜ now (spans .exit) ≡ with-row (now (spans .entry)) i (next-span (cited (now (row .entry))) (take i (now (spans .entry)))) ⌝ }
 {
-    let span = next_span(row, &spans[..i])?;
-    spans[i] = span;
+    let found = next_span(row, &spans[..i])?;
+    spans[i] = found;
     Ok(())
 }
 
@@ -96,7 +96,7 @@ fn confirm_span<R: Citing>(row: &R, i: usize, spans: &[u16]) -> Result<(), Scree
 // Whether the table has a lawful length and its spans have room.
 fn room_for<R: Citing>(rows: &[R], spans: &[u16]) -> Result<(), ScreenFault>
     ensures answer { λ r. ⌜ r ≡ room-for limit (length (now (rows .entry))) (length (now (spans .entry))) ⌝ }
-    ensures fits { λ r. ⌜ made r (λ _. (0 < length (now (rows .entry))) × (length (now (rows .entry)) ≤ limit) × (length (now (rows .entry)) ≤ length (now (spans .entry)))) ⌝ }
+    ensures fits { λ r. ⌜ made r (λ _. Fits limit (length (now (rows .entry))) (length (now (spans .entry)))) ⌝ }
 {
     if rows.is_empty() || R::longest() < rows.len() {
         return Err(ScreenFault::Size);
@@ -137,7 +137,7 @@ pub fn screen<R: Citing>(rows: &[R], spans: &mut [u16]) -> Result<(), ScreenFaul
 // Whether the spans held are those that screening would write for these rows, and it would accept them.
 pub fn confirm<R: Citing>(rows: &[R], spans: &[u16]) -> Result<(), ScreenFault>
     ensures answer { λ r. ⌜ r ≡ confirmed cited limit (now (rows .entry)) (now (spans .entry)) ⌝ }
-    ensures fits { λ r. ⌜ made r (λ _. (0 < length (now (rows .entry))) × (length (now (rows .entry)) ≤ limit) × (length (now (rows .entry)) ≤ length (now (spans .entry)))) ⌝ }
+    ensures fits { λ r. ⌜ made r (λ _. Fits limit (length (now (rows .entry))) (length (now (spans .entry)))) ⌝ }
     ensures law { λ r. ⌜ Spans-law cited limit (now (rows .entry)) (now (spans .entry)) r ⌝ }
     ensures accepted { λ r. ⌜ made r (λ _. Accepted cited limit (now (rows .entry)) (take (length (now (rows .entry))) (now (spans .entry)))) ⌝ }
 {

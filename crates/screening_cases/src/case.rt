@@ -30,23 +30,31 @@ pub(crate) impl fmt::Display for Answer as AnswerDisplay {
     }
 }
 
-pub(crate) trait Case: Citing + Copy {
+// A kind of row that cases are made of.
+pub(crate) trait CaseRow: Citing + Copy {
     // The row that the text says, as row number `at` of its table.
     fn read(text: &str, at: u16) -> Result<Self, AnyError>;
 
-    // What a place answers when it is offered these rows with these spans.
-    fn fill(rows: &[Self], spans: &[u16]) -> Answer;
+    // What a slot answers when it is offered these rows with these spans, and how many rows it holds afterwards.
+    fn fill(rows: &[Self], spans: &[u16]) -> (Answer, usize);
+}
+
+fn no_more(word: Option<&str>) -> Result<(), AnyError> {
+    match word {
+        None => Ok(()),
+        Some(_) => Err("a word too many".into()),
+    }
 }
 
 fn field(word: Option<&str>, at: u16) -> Result<u16, AnyError> {
     match word.ok_or("a field is missing")? {
         "-" => Ok(UNUSED),
-        "^" => Ok(at.wrapping_sub(1)),
+        "^" => Ok(at.checked_sub(1).ok_or("no row before")?),
         digits => Ok(digits.parse::<u16>()?),
     }
 }
 
-pub(crate) impl Case for SyntaxRow as SyntaxCase {
+pub(crate) impl CaseRow for SyntaxRow as SyntaxCase {
     fn read(text: &str, at: u16) -> Result<SyntaxRow, AnyError> {
         let mut words = text.split_whitespace();
         let kind = words.next().ok_or("no kind")?.parse::<u8>()?;
@@ -54,6 +62,7 @@ pub(crate) impl Case for SyntaxRow as SyntaxCase {
         let second = field(words.next(), at)?;
         let third = field(words.next(), at)?;
         let datum = words.next().ok_or("no datum")?.parse::<i32>()?;
+        no_more(words.next())?;
         let children = Fields {
             first,
             second,
@@ -66,19 +75,20 @@ pub(crate) impl Case for SyntaxRow as SyntaxCase {
         })
     }
 
-    fn fill(rows: &[SyntaxRow], spans: &[u16]) -> Answer {
-        let mut place = Program::skip();
-        match place.fill(RawProgram::new(rows, spans)) {
+    fn fill(rows: &[SyntaxRow], spans: &[u16]) -> (Answer, usize) {
+        let mut slot = Program::skip();
+        let answer = match slot.fill(RawProgram::new(rows, spans)) {
             Ok(()) => Answer::Accepted,
             Err(fault) => Answer::Refused {
                 number: fault.number(),
                 place: fault.place(),
             },
-        }
+        };
+        (answer, slot.rows().len())
     }
 }
 
-pub(crate) impl Case for DerivationRow as DerivationCase {
+pub(crate) impl CaseRow for DerivationRow as DerivationCase {
     fn read(text: &str, at: u16) -> Result<DerivationRow, AnyError> {
         let mut words = text.split_whitespace();
         let rule = words.next().ok_or("no rule")?.parse::<u8>()?;
@@ -87,6 +97,7 @@ pub(crate) impl Case for DerivationRow as DerivationCase {
         let second = field(words.next(), at)?;
         let third = field(words.next(), at)?;
         let value = words.next().ok_or("no value")?.parse::<i32>()?;
+        no_more(words.next())?;
         let premises = Fields {
             first,
             second,
@@ -100,20 +111,21 @@ pub(crate) impl Case for DerivationRow as DerivationCase {
         })
     }
 
-    fn fill(rows: &[DerivationRow], spans: &[u16]) -> Answer {
-        let mut place = Derivation::skip();
-        match place.fill(RawDerivation::new(rows, spans)) {
+    fn fill(rows: &[DerivationRow], spans: &[u16]) -> (Answer, usize) {
+        let mut slot = Derivation::skip();
+        let answer = match slot.fill(RawDerivation::new(rows, spans)) {
             Ok(()) => Answer::Accepted,
             Err(fault) => Answer::Refused {
                 number: fault.number(),
                 place: fault.place(),
             },
-        }
+        };
+        (answer, slot.rows().len())
     }
 }
 
 // The row that the text says, so many times.
-fn push_rows<R: Case>(rows: &mut Vec<R>, text: &str, times: u16) -> Result<(), AnyError> {
+fn push_rows<R: CaseRow>(rows: &mut Vec<R>, text: &str, times: u16) -> Result<(), AnyError> {
     for _ in 0..times {
         let at = u16::try_from(rows.len())?;
         rows.push(R::read(text, at)?)?;
@@ -121,25 +133,28 @@ fn push_rows<R: Case>(rows: &mut Vec<R>, text: &str, times: u16) -> Result<(), A
     Ok(())
 }
 
-pub(crate) fn read_rows<R: Case>(heap: Global, text: &str) -> Result<Vec<R>, AnyError> {
+pub(crate) fn read_rows<R: CaseRow>(heap: Global, text: &str) -> Result<Vec<R>, AnyError> {
     let mut rows = Vec::new(heap);
     for row in text.split(',') {
         match row.split_once(" x ") {
             Some((one, times)) => push_rows(&mut rows, one, times.parse::<u16>()?)?,
-            None if row.is_empty() => {}
+            None if row == "none" => {}
             None => push_rows(&mut rows, row, 1)?,
         }
     }
     Ok(rows)
 }
 
-// Screens a table, and offers it to a place where that accepts it.
-pub(crate) fn load<R: Case>(rows: &[R], spans: &mut [u16]) -> Answer {
+// Screens a table, and offers it to a slot where that accepts it. A slot that is offered nothing holds one row.
+pub(crate) fn load<R: CaseRow>(rows: &[R], spans: &mut [u16]) -> (Answer, usize) {
     match screen(rows, spans) {
         Ok(()) => R::fill(rows, spans),
-        Err(fault) => Answer::Refused {
-            number: fault.number(),
-            place: fault.place(),
-        },
+        Err(fault) => (
+            Answer::Refused {
+                number: fault.number(),
+                place: fault.place(),
+            },
+            1,
+        ),
     }
 }

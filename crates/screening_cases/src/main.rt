@@ -7,7 +7,7 @@ mod case;
 mod spans;
 
 use case::AnswerDisplay;
-use case::Case;
+use case::CaseRow;
 use case::DerivationCase;
 use case::SyntaxCase;
 use rows::citing::DerivationCiting;
@@ -16,27 +16,22 @@ use rows::derivation::DerivationRow;
 use rows::syntax::SyntaxRow;
 use std::error::AnyError;
 
-fn print_table<R: Case>(
+// Prints what is answered of a table, the rows that the slot holds afterwards, and the spans.
+fn print_table<R: CaseRow>(
     rt: &LibcRuntime,
     title: &str,
     memory: &str,
     text: &str,
 ) -> Result<(), AnyError> {
     let rows = case::read_rows::<R>(rt.alloc(), text)?;
-    match memory.strip_prefix("=") {
-        Some(held) => {
-            let spans = spans::held(rt.alloc(), held)?;
-            let answer = R::fill(&rows, &spans);
-            print!(rt, "{title}: {answer}, spans")?;
-            spans::print(rt, &spans)
-        }
-        None => {
-            let mut spans = spans::blank(rt.alloc(), memory)?;
-            let answer = case::load(&rows, &mut spans);
-            print!(rt, "{title}: {answer}, spans")?;
-            spans::print(rt, &spans)
-        }
-    }
+    let mut spans = spans::read(rt.alloc(), memory)?;
+    let (answer, held) = if memory.starts_with("=") {
+        R::fill(&rows, &spans)
+    } else {
+        case::load(&rows, &mut spans)
+    };
+    print!(rt, "{title}: {answer}, holds {held}, spans")?;
+    spans::print(rt, &spans)
 }
 
 fn print_line(rt: &LibcRuntime, line: &str) -> Result<(), AnyError> {

@@ -2,11 +2,11 @@
 use std::alloc::Global;
 use std::error::AnyError;
 
-// What stands where no screening has written a span. No span is 0.
-const BLANK: u16 = 0;
+// What stands where no screening has written a span. No span is so large.
+const BLANK: u16 = 65535;
 
 // The spans that a table brings with it.
-pub(crate) fn held(heap: Global, text: &str) -> Result<Vec<u16>, AnyError> {
+fn held(heap: Global, text: &str) -> Result<Vec<u16>, AnyError> {
     let mut spans = Vec::new(heap);
     for word in text.split_whitespace() {
         spans.push(word.parse::<u16>()?)?;
@@ -15,12 +15,20 @@ pub(crate) fn held(heap: Global, text: &str) -> Result<Vec<u16>, AnyError> {
 }
 
 // Memory for so many spans.
-pub(crate) fn blank(heap: Global, count: &str) -> Result<Vec<u16>, AnyError> {
+fn blank(heap: Global, count: u16) -> Result<Vec<u16>, AnyError> {
     let mut spans = Vec::new(heap);
-    for _ in 0..count.parse::<u16>()? {
+    for _ in 0..count {
         spans.push(BLANK)?;
     }
     Ok(spans)
+}
+
+// The memory that a case asks for: `=` and spans, or how many there are to be.
+pub(crate) fn read(heap: Global, memory: &str) -> Result<Vec<u16>, AnyError> {
+    match memory.strip_prefix("=") {
+        Some(spans) => held(heap, spans),
+        None => blank(heap, memory.parse::<u16>()?),
+    }
 }
 
 // The most spans that are printed of a table: its last ones.

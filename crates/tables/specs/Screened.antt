@@ -45,6 +45,11 @@ program-answer rows spans = then-formed (confirmed syntax-cites longest-program 
 abbrev pub derivation-answer : List DerivationRow → List ℕ → Result (Unit {0}) ScreenFault
 derivation-answer rows spans = confirmed derivation-cites longest-derivation rows spans
 
+-- a slot after it was offered a raw table: it holds that table's rows and spans, or is as it was
+abbrev pub Filled : {T R E : Type 0} → Result (Unit {0}) E → T → T → List R → List ℕ → List R → List ℕ → Type 0
+Filled (Ok _) before after rows spans raw-rows raw-spans = (rows ≡ raw-rows) × (spans ≡ take (length raw-rows) raw-spans)
+Filled (Err _) before after rows spans raw-rows raw-spans = after ≡ before
+
 -- what each refusal says of the rows
 abbrev pub Refused : List SyntaxRow → List ℕ → ProgramFault → Type 0
 Refused rows spans (Screening fault) = confirmed syntax-cites longest-program rows spans ≡ Err fault

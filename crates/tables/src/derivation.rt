@@ -1,14 +1,13 @@
 // Derivations: rows of rules with their spans, raw and screened.
 ghost use mathlib.Core.Path.{_≡_};
 ghost use mathlib.Core.List.{[], _∷_};
-ghost use lib.ListN.{length, take};
 ghost use denote.Ref.{now};
-ghost use Rattle.std.specs.Results.{Cases};
 ghost use Rattle.rows.specs.Citing.{longest-derivation, derivation-cites};
 ghost use Rattle.screening.specs.Spans.{Table-law, Spans-law};
-ghost use Rattle.tables.specs.Screened.{skip-rule-row, Lawful-derivation, derivation-answer};
+ghost use Rattle.tables.specs.Screened.{skip-rule-row, Lawful-derivation, derivation-answer, Filled};
 use rows::citing::DerivationCiting;
 use rows::derivation::DerivationRow;
+use rows::derivation::Rule;
 use rows::fields::Fields;
 use rows::fields::UNUSED;
 use screening::confirm;
@@ -22,6 +21,7 @@ pub struct RawDerivation<'r, 's> {
 }
 
 impl<'r, 's> RawDerivation<'r, 's> {
+    // The table of these rows, with these spans.
     pub fn new(rows: &'r [DerivationRow], spans: &'s [u16]) -> RawDerivation<'r, 's>
         ensures rows { λ r. ⌜ now (r .rows) ≡ now (rows .entry) ⌝ }
         ensures spans { λ r. ⌜ now (r .spans) ≡ now (spans .entry) ⌝ }
@@ -39,7 +39,7 @@ pub struct Derivation<'r, 's> {
 }
 
 static SKIP: [DerivationRow; 1] = [DerivationRow {
-    rule: 10,
+    rule: Rule::Skip as u8,
     syntax: 0,
     premises: Fields {
         first: UNUSED,
@@ -63,10 +63,10 @@ impl<'r, 's> Derivation<'r, 's> {
         }
     }
 
-    // Takes the table's place if it is screened with these spans; else stays as it was.
+    // Takes the table in if it has the spans of a screening; else stays as it was.
     pub fn fill(&mut self, raw: RawDerivation<'r, 's>) -> Result<(), ScreenFault>
         ensures answer { λ r. ⌜ r ≡ derivation-answer (now (raw .entry .rows)) (now (raw .entry .spans)) ⌝ }
-        ensures place { λ r. ⌜ Cases r (λ _. (now (now (self .exit) .rows) ≡ now (raw .entry .rows)) × (now (now (self .exit) .spans) ≡ take (length (now (raw .entry .rows))) (now (raw .entry .spans)))) (λ _. now (self .exit) ≡ now (self .entry)) ⌝ }
+        ensures slot { λ r. ⌜ Filled r (now (self .entry)) (now (self .exit)) (now (now (self .exit) .rows)) (now (now (self .exit) .spans)) (now (raw .entry .rows)) (now (raw .entry .spans)) ⌝ }
         ensures law { λ r. ⌜ Spans-law derivation-cites longest-derivation (now (raw .entry .rows)) (now (raw .entry .spans)) r ⌝ }
     {
         let rows = raw.rows;

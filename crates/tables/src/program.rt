@@ -4,18 +4,18 @@ ghost use mathlib.Core.List.{[], _∷_};
 ghost use Prim.Native.Nat.{_≤_};
 ghost use lib.ListN.{length, take};
 ghost use denote.Ref.{now};
-ghost use Rattle.std.specs.Results.{Cases};
 ghost use Rattle.std.specs.Vec.{made};
 ghost use Rattle.rows.specs.Citing.{longest-program, syntax-cites};
 ghost use Rattle.screening.specs.Spans.{Table-law};
 ghost use Rattle.tables.specs.Forming.{Well-formed};
-ghost use Rattle.tables.specs.Screened.{skip-row, Lawful-program, program-answer, Program-law};
+ghost use Rattle.tables.specs.Screened.{skip-row, Lawful-program, program-answer, Filled, Program-law};
 use crate::fault::ProgramFault;
 use crate::fault::ScreeningFrom;
 use crate::forming::check_rows;
 use rows::citing::SyntaxCiting;
 use rows::fields::Fields;
 use rows::fields::UNUSED;
+use rows::syntax::Kind;
 use rows::syntax::SyntaxRow;
 use screening::confirm;
 
@@ -37,6 +37,7 @@ pub struct RawProgram<'r, 's> {
 }
 
 impl<'r, 's> RawProgram<'r, 's> {
+    // The table of these rows, with these spans.
     pub fn new(rows: &'r [SyntaxRow], spans: &'s [u16]) -> RawProgram<'r, 's>
         ensures rows { λ r. ⌜ now (r .rows) ≡ now (rows .entry) ⌝ }
         ensures spans { λ r. ⌜ now (r .spans) ≡ now (spans .entry) ⌝ }
@@ -54,7 +55,7 @@ pub struct Program<'r, 's> {
 }
 
 static SKIP: [SyntaxRow; 1] = [SyntaxRow {
-    kind: 10,
+    kind: Kind::Skip as u8,
     children: Fields {
         first: UNUSED,
         second: UNUSED,
@@ -77,10 +78,10 @@ impl<'r, 's> Program<'r, 's> {
         }
     }
 
-    // Takes the table's place if it is a program with the spans of a screening; else stays as it was.
+    // Takes the table in if it is a program with the spans of a screening; else stays as it was.
     pub fn fill(&mut self, raw: RawProgram<'r, 's>) -> Result<(), ProgramFault>
         ensures answer { λ r. ⌜ r ≡ program-answer (now (raw .entry .rows)) (now (raw .entry .spans)) ⌝ }
-        ensures place { λ r. ⌜ Cases r (λ _. (now (now (self .exit) .rows) ≡ now (raw .entry .rows)) × (now (now (self .exit) .spans) ≡ take (length (now (raw .entry .rows))) (now (raw .entry .spans)))) (λ _. now (self .exit) ≡ now (self .entry)) ⌝ }
+        ensures slot { λ r. ⌜ Filled r (now (self .entry)) (now (self .exit)) (now (now (self .exit) .rows)) (now (now (self .exit) .spans)) (now (raw .entry .rows)) (now (raw .entry .spans)) ⌝ }
         ensures law { λ r. ⌜ Program-law (now (raw .entry .rows)) (now (raw .entry .spans)) r ⌝ }
     {
         let rows = raw.rows;

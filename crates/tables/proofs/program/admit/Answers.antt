@@ -20,5 +20,5 @@ returns c =
     record {
       answer = c .check-rows .ensures ∙ ap (λ x. then-formed x (c .args .rows .now)) (k .answer);
       law = program-law _ _ _ (k .answer) (k .law) _ (c .check-rows .ensures);
-      admits = lawful-made _ _ _ (k .fits .2) (k .accepted) (c .check-rows .result) (c .check-rows .ensures);
+      admits = lawful-made _ _ _ (k .fits .room) (k .accepted) (c .check-rows .result) (c .check-rows .ensures);
     }
