@@ -20,10 +20,12 @@ longest-program = 1024
 abbrev pub longest-derivation : ℕ
 longest-derivation = 2048
 
+-- the citations of a row of a kind, if the kind is known
 abbrev pub children-cited : Option Kind → Fields → Option (List ℕ)
 children-cited None fields = None
 children-cited (Some kind) fields = used (children-of kind) (in-order fields)
 
+-- the citations of a row of a rule, if the rule is known
 abbrev pub premises-cited : Option Rule → Fields → Option (List ℕ)
 premises-cited None fields = None
 premises-cited (Some rule) fields = used (premises-of rule) (in-order fields)

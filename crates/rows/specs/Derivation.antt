@@ -1,4 +1,4 @@
--- The rules of large steps, by the names that the field gives them.
+-- The rules of a derivation, by their usual names.
 use mathlib.Core.Bool.{cond}
 use mathlib.Core.List.{List, [], _∷_}
 use Prim.Native.Nat.{ℕ}

@@ -5,6 +5,7 @@ use Rattle.std.specs.declared.option.Option.the-variants.{Some, None}
 use Rattle.rows.specs.declared.few.Few.{Few}
 use Rattle.rows.specs.declared.few.Few.the-variants.{Zero, One, Two, Three}
 
+-- the things, first to last
 abbrev pub listed : {T : Type 0} → Few T → List T
 listed Zero = []
 listed (One a) = a ∷ []

@@ -8,6 +8,7 @@ use Rattle.std.specs.declared.option.Option.{Option}
 use Rattle.std.specs.declared.option.Option.the-variants.{Some, None}
 use Rattle.rows.specs.declared.fields.Fields.{Fields}
 
+-- the three fields, first to last
 abbrev pub in-order : Fields → List ℕ
 in-order f = f .first ∷ f .second ∷ f .third ∷ []
 
@@ -16,6 +17,7 @@ abbrev pub unused : List ℕ → Bool
 unused [] = true
 unused (f ∷ fs) = eqb f 65535 && unused fs
 
+-- one more citation before those that follow, if these are any
 abbrev pub after : ℕ → Option (List ℕ) → Option (List ℕ)
 after f None = None
 after f (Some fs) = Some (f ∷ fs)

@@ -70,6 +70,7 @@ abbrev pub is-name : ℤ → Bool
 is-name (pos n) = ltb n 64
 is-name (negsuc n) = false
 
+-- the datum of a kind that has none
 abbrev pub is-zero : ℤ → Bool
 is-zero (pos n) = eqb n 0
 is-zero (negsuc n) = false

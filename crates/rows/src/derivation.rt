@@ -42,6 +42,7 @@ pub enum Premise {
     Itself,
 }
 
+// The rules, each with the code that stands for it.
 #[derive(Clone, Copy)]
 pub enum Rule {
     Num = 1,

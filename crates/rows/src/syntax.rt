@@ -38,6 +38,7 @@ pub enum Sort {
     Command,
 }
 
+// The kinds of phrases, each with the code that stands for it.
 #[derive(Clone, Copy)]
 pub enum Kind {
     Numeral = 1,

@@ -21,7 +21,8 @@ use Rattle.screening.specs.Screening.{next-span, with-span, whole, scan, room-
 use Rattle.screening.specs.Spans.{held-span, rescan, confirmed, Accepted, Table-law, Spans-law}
 use Rattle.screening.proofs.Scans.{not-ok, ok-not-err, cases-result, bounded-next, Scanned, scanned-none, here, stopped-at-end}
 use Rattle.screening.specs.Trees.{size, spans-of, Lists, tree}
-use Rattle.screening.proofs.Laws.{room-is, is-room, tree-scan, screening-law}
+use Rattle.screening.proofs.Growth.{room-is, is-room, tree-scan}
+use Rattle.screening.proofs.Laws.{screening-law}
 use Rattle.screening.proofs.Forests.{length-spans, length-post}
 
 -- After i rows: what is left gives the whole, of the screening too.

@@ -1,14 +1,13 @@
 -- What screening accepts is exactly what lists one tree; a refusal says how far the rows list trees.
 use mathlib.Core.Path.{_≡_, refl, sym, _∙_, ap, subst}
-use mathlib.Core.Bool.{true, false, _||_}
 use mathlib.Core.Logic.{_⊎_, inl, inr}
 use mathlib.Core.List.{List, [], _∷_, _++_}
-use Prim.Native.Nat.{ℕ, zero, suc, _+_, _-_, _<_, _≤_}
+use Prim.Native.Nat.{ℕ, _+_, _-_, _<_, _≤_}
 use native.Mathlib.Omega.{arith}
 use lib.Dec.{eqb, ltb}
 use lib.ListN.{length, getD, take, drop}
-use Rattle.std.proofs.shelf.Tests.{cases-bool, eqb-true, eqb-false, eq-eqb, ne-eqb, le-ltb, ltb-true, ltb-false, or-parts}
-use Rattle.std.proofs.shelf.Lists.{length-push, append-assoc, append-nil, length-append, take-at, drop-at, getD-at}
+use Rattle.std.proofs.shelf.Tests.{cases-bool, eqb-true, ltb-true}
+use Rattle.std.proofs.shelf.Lists.{length-push, append-assoc, length-append, take-at, getD-at}
 use Rattle.std.proofs.shelf.Maps.{nth-getD}
 use Rattle.std.specs.Runs.{nth}
 use Rattle.std.specs.declared.option.Option.{Option}
@@ -17,234 +16,13 @@ use Rattle.std.specs.declared.result.Result.{Result}
 use Rattle.std.specs.declared.result.Result.the-variants.{Ok, Err}
 use Rattle.screening.specs.declared.fault.ScreenFault.{ScreenFault}
 use Rattle.screening.specs.declared.fault.ScreenFault.the-variants.{Size, Memory, Malformed, Citation, SeveralTrees}
-use Rattle.screening.specs.Screening.{laid, total, span-of, or-citation, next-span, Screened, with-span, whole, scan, room-for, Fits, over, screened}
-use Rattle.screening.specs.Trees.{Forest, bare, plant, size, post, spans-of, roots, Cites, Lists, tree, Stops-at, Divides-at, Screening-law}
+use Rattle.screening.specs.Screening.{span-of, or-citation, next-span, Screened, whole, scan, room-for, over, screened}
+use Rattle.screening.specs.Trees.{bare, size, post, spans-of, tree, Stops-at, Divides-at, Screening-law}
 use Rattle.screening.specs.Refusals.{screen-refusal}
-use Rattle.screening.proofs.Scans.{none-of, ok-not-err, cases-result, if-some-is, placed}
-use Rattle.screening.proofs.Forests.{join, size-join, post-join, spans-join, length-spans, length-post, cites-join, join-cites, last-some, root-span, total-roots, scan-post, size-zero, split}
-
--- one more row: it takes the trees that it names below it
-pub record More {R : Type 0} (cited : R → Option (List ℕ)) (f : Forest R) (r : R) (s : ℕ) : Type 0 where
-  pub forest : Forest R
-  pub listing : post forest ≡ post f ++ r ∷ []
-  pub citing : Cites cited 0 forest
-  pub sized-as : spans-of forest ≡ spans-of f ++ s ∷ []
-
-pub more-by : {R : Type 0} (cited : R → Option (List ℕ)) (f : Forest R) → Cites cited 0 f → (r : R) (s : ℕ) → next-span (cited r) (spans-of f) ≡ Ok s → More cited f r s
-more-by cited f k r s t =
-    let p = placed (cited r) (spans-of f) s t in
-    let i = if-some-is (laid (spans-of f) (length (spans-of f)) (p .cites)) (1 + total (spans-of f) (p .cites)) s (p .laid-down) in
-    let d = split f (length (spans-of f)) (length-spans f) (p .cites) (i .0) (i .1) in
-    let g = d .earlier in
-    let h = d .named in
-    let j = cites-join cited 0 g h (subst (λ (x : Forest _). Cites cited 0 x) (d .is) k) in
-    let sp : spans-of f ≡ spans-of g ++ spans-of h = ap spans-of (d .is) ∙ spans-join g h in
-    let n : total (spans-of f) (roots (i .0) h) ≡ size h = total-roots (spans-of g) h (spans-of f) sp (i .0) (omega (arith, length-spans g)) in
-    let n′ : total (spans-of f) (p .cites) ≡ size h = ap (total (spans-of f)) (sym (d .cites)) ∙ n in
-    let u : size h + 1 ≡ s = omega arith in
-    let b : roots (0 + size g) h ≡ p .cites = ap (λ x. roots x h) (omega arith) ∙ d .cites in
-    record {
-      forest = join g (plant r h bare);
-      listing = post-join g (plant r h bare) ∙ sym (append-assoc (post g) (post h) (r ∷ [])) ∙ ap (λ x. x ++ r ∷ []) (sym (ap post (d .is) ∙ post-join g h));
-      citing = join-cites cited 0 g (plant r h bare) (j .0) (j .1, p .known ∙ ap Some (sym b), tt);
-      sized-as = spans-join g (plant r h bare) ∙ sym (append-assoc (spans-of g) (spans-of h) ((size h + 1) ∷ [])) ∙ ap (λ x. x ++ (size h + 1) ∷ []) (sym sp) ∙ ap (λ x. spans-of f ++ x ∷ []) u;
-    }
-
--- the scan came to the end of the rows
-pub record Through {R : Type 0} (cited : R → Option (List ℕ)) (rs : List R) (f : Forest R) : Type 0 where
-  pub forest : Forest R
-  pub listing : post forest ≡ post f ++ rs
-  pub citing : Cites cited 0 forest
-  pub ends : scan cited rs (spans-of f) ≡ record { answer = whole (spans-of forest); written = spans-of forest }
-
--- the scan stopped at a row
-pub record Halfway {R : Type 0} (cited : R → Option (List ℕ)) (rs : List R) (f : Forest R) : Type 0 where
-  pub forest : Forest R
-  pub passed : List R
-  pub row : R
-  pub left : List R
-  pub parts : rs ≡ passed ++ row ∷ left
-  pub listing : post forest ≡ post f ++ passed
-  pub citing : Cites cited 0 forest
-  pub fault : ScreenFault
-  pub refused : next-span (cited row) (spans-of forest) ≡ Err fault
-  pub ends : scan cited rs (spans-of f) ≡ record { answer = Err fault; written = spans-of forest }
-
-abbrev pub Progress : {R : Type 0} → (R → Option (List ℕ)) → List R → Forest R → Type 0
-Progress cited rs f = Through cited rs f ⊎ Halfway cited rs f
-
--- the progress from one more row on
-pub onward : {R : Type 0} (cited : R → Option (List ℕ)) (r : R) (rs : List R) (f : Forest R) (s : ℕ) (m : More cited f r s) → next-span (cited r) (spans-of f) ≡ Ok s → Progress cited rs (m .forest) → Progress cited (r ∷ rs) f
-onward cited r rs f s m o p =
-    let e : scan cited (r ∷ rs) (spans-of f) ≡ scan cited rs (spans-of (m .forest)) = ap (λ x. with-span (spans-of f) x (λ s. scan cited rs (spans-of f ++ s ∷ []))) o ∙ ap (scan cited rs) (sym (m .sized-as)) in
-    let l : (xs : List _) → post (m .forest) ++ xs ≡ post f ++ (r ∷ xs) = λ xs. ap (λ x. x ++ xs) (m .listing) ∙ append-assoc (post f) (r ∷ []) xs in
-    elim p [
-      | inl t ↦ inl (record { forest = t .forest; listing = t .listing ∙ l rs; citing = t .citing; ends = e ∙ t .ends })
-      | inr h ↦
-          inr (record {
-            forest = h .forest;
-            passed = r ∷ h .passed;
-            row = h .row;
-            left = h .left;
-            parts = ap (λ x. r ∷ x) (h .parts);
-            listing = h .listing ∙ l (h .passed);
-            citing = h .citing;
-            fault = h .fault;
-            refused = h .refused;
-            ends = e ∙ h .ends;
-          })
-    ]
-
-pub progress : {R : Type 0} (cited : R → Option (List ℕ)) (rs : List R) (f : Forest R) → Cites cited 0 f → Progress cited rs f
-progress cited [] f k = inl (record { forest = f; listing = sym (append-nil (post f)); citing = k; ends = refl })
-progress cited (r ∷ rs) f k =
-    elim (cases-result (next-span (cited r) (spans-of f))) [
-      | inl (s, o) ↦ let m = more-by cited f k r s o in onward cited r rs f s m o (progress cited rs (m .forest) (m .citing))
-      | inr (fault, o) ↦
-          inr (record {
-            forest = f;
-            passed = [];
-            row = r;
-            left = rs;
-            parts = refl;
-            listing = sym (append-nil (post f));
-            citing = k;
-            fault = fault;
-            refused = o;
-            ends = ap (λ x. with-span (spans-of f) x (λ s. scan cited rs (spans-of f ++ s ∷ []))) o;
-          })
-    ]
-
--- past the two tests of sizes
-pub room-is : (limit n memory : ℕ) → room-for limit n memory ≡ Ok tt → Fits limit n memory
-room-is limit n memory e =
-    elim (cases-bool (eqb n 0 || ltb limit n)) [
-      | inl t ↦ let k : Err Size ≡ Ok tt = rw t at e in ok-not-err k
-      | inr f ↦
-          let parts = or-parts (eqb n 0) (ltb limit n) f in
-          let z : n ≡ 0 → ⊥ = eqb-false n 0 (parts .0) in
-          elim (cases-bool (ltb memory n)) [
-            | inl t ↦ let k : Err Memory ≡ Ok tt = rw (f, t) at e in ok-not-err k
-            | inr d ↦ record { some = omega arith; short = ltb-false _ _ (parts .1); room = ltb-false _ _ d }
-          ]
-    ]
-
-pub is-room : (limit n memory : ℕ) → 0 < n → n ≤ limit → n ≤ memory → room-for limit n memory ≡ Ok tt
-is-room limit n memory a b d =
-    let z : n ≡ 0 → ⊥ = λ e. omega arith in
-    let x : eqb n 0 ≡ false = ne-eqb n 0 z in
-    let y : ltb limit n ≡ false = le-ltb limit n b in
-    let w : ltb memory n ≡ false = le-ltb memory n d in
-    rw (x, y, w) refl
-
--- what a scan writes is at least what was written before it
-pub scan-longer : {R : Type 0} (cited : R → Option (List ℕ)) (rs : List R) (done : List ℕ) → length done ≤ length (scan cited rs done .written)
-scan-longer cited [] done = omega arith
-scan-longer cited (r ∷ rs) done =
-    elim (cases-result (next-span (cited r) done)) [
-      | inl (s, o) ↦ let h = scan-longer cited rs (done ++ s ∷ []) in rw o (omega (arith, length-push done s))
-      | inr (fault, o) ↦ rw o (omega arith)
-    ]
-
--- where every row has a span, the last one is the number of rows exactly where they list one tree
-pub whole-is : (done : List ℕ) → whole done ≡ Ok tt → getD done (length done - 1) 0 ≡ length done
-whole-is done h =
-    elim (cases-bool (eqb (getD done (length done - 1) 0) (length done))) [
-      | inl t ↦ eqb-true _ _ t
-      | inr f ↦ let k : Err (SeveralTrees (length done - 1)) ≡ Ok tt = rw f at h in ok-not-err k
-    ]
-
-pub only-tree : {R : Type 0} (cited : R → Option (List ℕ)) (rows : List R) (f : Forest R) → 0 < length rows → post f ≡ rows → Cites cited 0 f → whole (spans-of f) ≡ Ok tt → Lists cited rows
-only-tree cited rows f z p k e =
-    let n : size f ≡ length rows = sym (length-post f) ∙ ap length p in
-    let l = last-some f (omega arith) in
-    let w : size f ≡ size (l .earlier) + (size (l .below) + (1 + 0)) = ap size (l .is) ∙ size-join (l .earlier) (plant (l .root) (l .below) bare) in
-    let s : getD (spans-of f) (length (spans-of f) - 1) 0 ≡ size (l .below) + 1 = root-span (spans-of (l .earlier)) (l .below) bare (spans-of f) (ap spans-of (l .is) ∙ spans-join (l .earlier) (plant (l .root) (l .below) bare)) (length (spans-of f) - 1) (omega (arith, length-spans (l .earlier), length-spans f)) in
-    let v = whole-is (spans-of f) e in
-    let g : l .earlier ≡ bare = size-zero (l .earlier) (omega (arith, length-spans f)) in
-    let t : f ≡ plant (l .root) (l .below) bare = l .is ∙ ap (λ x. join x (plant (l .root) (l .below) bare)) g in
-    record {
-      root = l .root;
-      below = l .below;
-      listing = sym p ∙ ap post t;
-      citing = subst (λ (x : Forest _). Cites cited 0 x) t k;
-    }
-
--- the scan of rows that list one tree
-pub tree-scan : {R : Type 0} (cited : R → Option (List ℕ)) (rows : List R) (t : Lists cited rows) → scan cited rows [] ≡ record { answer = Ok tt; written = spans-of (tree t) }
-tree-scan cited rows t =
-    let f = plant (t .root) (t .below) bare in
-    let a : scan cited (post f ++ []) [] ≡ record { answer = whole (spans-of f); written = spans-of f } = scan-post cited f [] [] 0 refl (t .citing) in
-    let r : rows ≡ post f ++ [] = t .listing ∙ sym (append-nil (post f)) in
-    let n : length (spans-of f) ≡ size (t .below) + (1 + 0) = length-spans f in
-    let s : getD (spans-of f) (length (spans-of f) - 1) 0 ≡ size (t .below) + 1 = root-span [] (t .below) bare (spans-of f) refl (length (spans-of f) - 1) (omega arith) in
-    let e : eqb (getD (spans-of f) (length (spans-of f) - 1) 0) (length (spans-of f)) ≡ true = eq-eqb _ _ (omega arith) in
-    ap (λ x. scan cited x []) r ∙ a ∙ rw e refl
-
--- equal lists, cut at the same place
-pub front-same : {X : Type 0} (a b c d : List X) → a ++ b ≡ c ++ d → length a ≡ length c → a ≡ c
-front-same a b c d e n = sym (take-at a b (length a) refl) ∙ ap (take (length a)) e ∙ take-at c d (length a) (sym n)
-
-pub back-same : {X : Type 0} (a b c d : List X) → a ++ b ≡ c ++ d → length a ≡ length c → b ≡ d
-back-same a b c d e n = sym (drop-at a b (length a) refl) ∙ ap (drop (length a)) e ∙ drop-at c d (length a) (sym n)
-
--- a forest with its last tree apart
-pub record Apart {R : Type 0} (f : Forest R) : Type 0 where
-  pub earlier : Forest R
-  pub root : R
-  pub below : Forest R
-  pub is : f ≡ join earlier (plant root below bare)
-  pub posts : post f ≡ (post earlier ++ post below) ++ root ∷ []
-  pub spans : spans-of f ≡ (spans-of earlier ++ spans-of below) ++ (size below + 1) ∷ []
-  pub sizes : size f ≡ size earlier + size below + 1
-
-pub apart : {R : Type 0} (f : Forest R) → 0 < size f → Apart f
-apart f z =
-    let l = last-some f z in
-    let t = plant (l .root) (l .below) bare in
-    record {
-      earlier = l .earlier;
-      root = l .root;
-      below = l .below;
-      is = l .is;
-      posts = ap post (l .is) ∙ post-join (l .earlier) t ∙ sym (append-assoc (post (l .earlier)) (post (l .below)) (l .root ∷ []));
-      spans = ap spans-of (l .is) ∙ spans-join (l .earlier) t ∙ sym (append-assoc (spans-of (l .earlier)) (spans-of (l .below)) ((size (l .below) + 1) ∷ []));
-      sizes = ap size (l .is) ∙ size-join (l .earlier) t ∙ omega arith;
-    }
-
-pub head-same : {X : Type 0} (x y : X) → x ∷ [] ≡ y ∷ [] → x ≡ y
-head-same x y e = cc
-
--- the rows and the spans say which forest it is
-pub same-forest : {R : Type 0} (n : ℕ) (f g : Forest R) → size f ≤ n → post f ≡ post g → spans-of f ≡ spans-of g → f ≡ g
-same-forest zero f g h p s =
-    let m : size f ≡ size g = sym (length-post f) ∙ ap length p ∙ length-post g in
-    size-zero f (omega arith) ∙ sym (size-zero g (omega arith))
-same-forest (suc n) bare g h p s = sym (size-zero g (sym (length-post g) ∙ sym (ap length p)))
-same-forest (suc n) (plant q d t) g h p s =
-    let f = plant q d t in
-    let m : size f ≡ size g = sym (length-post f) ∙ ap length p ∙ length-post g in
-    let a = apart f (omega arith) in
-    let b = apart g (omega arith) in
-    let pe : (post (a .earlier) ++ post (a .below)) ++ a .root ∷ [] ≡ (post (b .earlier) ++ post (b .below)) ++ b .root ∷ [] = sym (a .posts) ∙ p ∙ b .posts in
-    let se : (spans-of (a .earlier) ++ spans-of (a .below)) ++ (size (a .below) + 1) ∷ [] ≡ (spans-of (b .earlier) ++ spans-of (b .below)) ++ (size (b .below) + 1) ∷ [] = sym (a .spans) ∙ s ∙ b .spans in
-    let pn : length (post (a .earlier) ++ post (a .below)) ≡ length (post (b .earlier) ++ post (b .below)) = length-append (post (a .earlier)) (post (a .below)) ∙ omega (arith, length-post (a .earlier), length-post (a .below), length-post (b .earlier), length-post (b .below), a .sizes, b .sizes) ∙ sym (length-append (post (b .earlier)) (post (b .below))) in
-    let sn : length (spans-of (a .earlier) ++ spans-of (a .below)) ≡ length (spans-of (b .earlier) ++ spans-of (b .below)) = length-append (spans-of (a .earlier)) (spans-of (a .below)) ∙ omega (arith, length-spans (a .earlier), length-spans (a .below), length-spans (b .earlier), length-spans (b .below), a .sizes, b .sizes) ∙ sym (length-append (spans-of (b .earlier)) (spans-of (b .below))) in
-    let r : a .root ≡ b .root = head-same (a .root) (b .root) (back-same _ _ _ _ pe pn) in
-    let z : size (a .below) + 1 ≡ size (b .below) + 1 = head-same (size (a .below) + 1) (size (b .below) + 1) (back-same _ _ _ _ se sn) in
-    let pf = front-same _ _ _ _ pe pn in
-    let sf = front-same _ _ _ _ se sn in
-    let pk : length (post (a .earlier)) ≡ length (post (b .earlier)) = length-post (a .earlier) ∙ omega (arith, a .sizes, b .sizes) ∙ sym (length-post (b .earlier)) in
-    let sk : length (spans-of (a .earlier)) ≡ length (spans-of (b .earlier)) = length-spans (a .earlier) ∙ omega (arith, a .sizes, b .sizes) ∙ sym (length-spans (b .earlier)) in
-    let e : a .earlier ≡ b .earlier = same-forest n (a .earlier) (b .earlier) (omega (arith, a .sizes)) (front-same _ _ _ _ pf pk) (front-same _ _ _ _ sf sk) in
-    let w : a .below ≡ b .below = same-forest n (a .below) (b .below) (omega (arith, a .sizes)) (back-same _ _ _ _ pf pk) (back-same _ _ _ _ sf sk) in
-    a .is ∙ ap (λ x. join x (plant (a .root) (a .below) bare)) e ∙ ap (λ x. join (b .earlier) (plant x (a .below) bare)) r ∙ ap (λ x. join (b .earlier) (plant (b .root) x bare)) w ∙ sym (b .is)
-
--- the rows alone do, with their citations
-pub one-tree : {R : Type 0} (cited : R → Option (List ℕ)) (rows : List R) (s t : Lists cited rows) → tree s ≡ tree t
-one-tree cited rows s t =
-    same-forest (size (tree s)) (tree s) (tree t) (omega arith) (sym (s .listing) ∙ t .listing)
-    (sym (ap (λ x. x .written) (tree-scan cited rows s)) ∙ ap (λ x. x .written) (tree-scan cited rows t))
+use Rattle.screening.proofs.Scans.{none-of, ok-not-err, cases-result}
+use Rattle.screening.proofs.Forests.{length-spans, length-post, scan-post}
+use Rattle.screening.proofs.Growth.{Through, Halfway, progress, room-is, is-room, scan-longer, only-tree, tree-scan}
+use Rattle.screening.proofs.Unique.{one-tree}
 
 pub no-numbers : {X : Type 0} (f g : ScreenFault) → f ≡ g → (screen-refusal f .number ≡ screen-refusal g .number → ⊥) → X
 no-numbers f g e n = absurd (n (ap (λ x. screen-refusal x .number) e))

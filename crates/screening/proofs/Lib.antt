@@ -1,4 +1,6 @@
 pub mod Scans
 pub mod Forests
+pub mod Growth
+pub mod Unique
 pub mod Laws
 pub mod Held

@@ -26,10 +26,12 @@ abbrev pub laid : List ℕ → ℕ → List ℕ → Option ℕ
 laid done n [] = Some n
 laid done n (p ∷ ps) = before done p (laid done n ps)
 
+-- the spans of the cited rows together
 abbrev pub total : List ℕ → List ℕ → ℕ
 total done [] = 0
 total done (p ∷ ps) = getD done p 0 + total done ps
 
+-- a span, where the citations are laid as they must be
 abbrev pub if-some : Option ℕ → ℕ → Option ℕ
 if-some None s = None
 if-some (Some _) s = Some s
@@ -38,6 +40,7 @@ if-some (Some _) s = Some s
 abbrev pub span-of : List ℕ → List ℕ → Option ℕ
 span-of done ps = if-some (laid done (length done) ps) (1 + total done ps)
 
+-- a span, or the fault of a row that cites wrongly
 abbrev pub or-citation : ℕ → Option ℕ → Result ℕ ScreenFault
 or-citation row None = Err (Citation row)
 or-citation row (Some s) = Ok s
@@ -56,6 +59,7 @@ abbrev pub with-row : List ℕ → ℕ → Result ℕ ScreenFault → List ℕ
 with-row spans i (Err fault) = spans
 with-row spans i (Ok s) = set spans i s
 
+-- what screening answers, and what it has written
 pub record Screened : Type 0 where
   pub answer : Result (Unit {0}) ScreenFault
   pub written : List ℕ
@@ -89,6 +93,7 @@ pub record Fits (limit rows memory : ℕ) : Type 0 where
 abbrev pub over : Screened → List ℕ → Screened
 over s memory = record { answer = s .answer; written = s .written ++ drop (length (s .written)) memory }
 
+-- where there is room, what the scan gives; else the fault, and the memory as it was
 abbrev pub where-room : Result (Unit {0}) ScreenFault → Screened → List ℕ → Screened
 where-room (Err fault) s memory = record { answer = Err fault; written = memory }
 where-room (Ok _) s memory = over s memory

@@ -17,6 +17,7 @@ pub data Forest (R : Type 0) : Type 0 where
   bare : Forest R
   plant : R → Forest R → Forest R → Forest R
 
+-- how many rows there are
 abbrev pub size : {R : Type 0} → Forest R → ℕ
 size bare = 0
 size (plant r below after) = size below + (1 + size after)
@@ -55,6 +56,7 @@ pub record Lists {R : Type 0} (cited : R → Option (List ℕ)) (rows : List R) 
   pub listing : rows ≡ post (plant root below bare)
   pub citing : Cites cited 0 (plant root below bare)
 
+-- that tree
 abbrev pub tree : {R : Type 0} {cited : R → Option (List ℕ)} {rows : List R} → Lists cited rows → Forest R
 tree t = plant (t .root) (t .below) bare
 

@@ -21,10 +21,12 @@ use Rattle.tables.specs.declared.fault.ProgramFault.the-variants.{Screening, C
 use Rattle.rows.specs.Fields.{in-order}
 use Rattle.rows.specs.Syntax.{kind-of, sort-of, children-of, admitted}
 
+-- the sort of a kind, if it is known
 abbrev pub kind-sort : Option Kind → Option Sort
 kind-sort None = None
 kind-sort (Some kind) = Some (sort-of kind)
 
+-- the sort of a row, if there is one and its kind is known
 abbrev pub row-sort : Option SyntaxRow → Option Sort
 row-sort None = None
 row-sort (Some row) = kind-sort (kind-of (row .kind))
@@ -33,6 +35,7 @@ row-sort (Some row) = kind-sort (kind-of (row .kind))
 abbrev pub sort-at : List SyntaxRow → ℕ → Option Sort
 sort-at rows p = row-sort (nth rows p)
 
+-- whether two sorts are the same
 abbrev pub same-sort : Sort → Sort → Bool
 same-sort Expression Expression = true
 same-sort Expression Test = false
@@ -44,6 +47,7 @@ same-sort Command Expression = false
 same-sort Command Test = false
 same-sort Command Command = true
 
+-- whether a phrase is of a sort
 abbrev pub is-of : Sort → Option Sort → Bool
 is-of sort None = false
 is-of sort (Some other) = same-sort sort other
@@ -54,6 +58,7 @@ have-sorts rows [] ps = true
 have-sorts rows (s ∷ ss) [] = false
 have-sorts rows (s ∷ ss) (p ∷ ps) = is-of s (sort-at rows p) && have-sorts rows ss ps
 
+-- whether row i stands among the rows as its kind asks, where this is its kind: its children first, then its datum
 abbrev pub formed-as : List SyntaxRow → ℕ → SyntaxRow → Option Kind → Result (Unit {0}) ProgramFault
 formed-as rows i row None = Err (ChildSort i)
 formed-as rows i row (Some kind) =
@@ -61,10 +66,11 @@ formed-as rows i row (Some kind) =
     (cond (admitted kind (row .datum)) (Ok tt) (Err (Datum i)))
     (Err (ChildSort i))
 
--- whether row i stands among the rows as its kind asks: its children first, then its datum
+-- the same of a row with its own kind
 abbrev pub formed-row : List SyntaxRow → ℕ → SyntaxRow → Result (Unit {0}) ProgramFault
 formed-row rows i row = formed-as rows i row (kind-of (row .kind))
 
+-- whether the last row is a command
 abbrev pub ends-in-command : List SyntaxRow → Result (Unit {0}) ProgramFault
 ends-in-command rows = cond (is-of Command (sort-at rows (length rows - 1))) (Ok tt) (Err (NotCommand (length rows - 1)))
 
@@ -73,6 +79,7 @@ abbrev pub formed-from : List SyntaxRow → ℕ → List SyntaxRow → Result (U
 formed-from rows i [] = ends-in-command rows
 formed-from rows i (r ∷ rs) = andOther (formed-row rows i r) (formed-from rows (i + 1) rs)
 
+-- all rows in order, and then the last: the first that is wrong, if any is
 abbrev pub formed : List SyntaxRow → Result (Unit {0}) ProgramFault
 formed rows = formed-from rows 0 rows
 
@@ -87,6 +94,7 @@ Sorts rows [] ps = Unit {0}
 Sorts rows (s ∷ ss) [] = ⊥
 Sorts rows (s ∷ ss) (p ∷ ps) = (sort-at rows p ≡ Some s) × Sorts rows ss ps
 
+-- a row whose kind is known, with children of its sorts and a datum that it may hold
 pub record Formed-row (rows : List SyntaxRow) (row : SyntaxRow) : Type 0 where
   pub kind : Kind
   pub known : kind-of (row .kind) ≡ Some kind

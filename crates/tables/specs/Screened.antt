@@ -20,6 +20,7 @@ use Rattle.screening.specs.Trees.{spans-of, Lists, tree}
 use Rattle.screening.specs.Spans.{confirmed, Accepted, Table-law}
 use Rattle.tables.specs.Forming.{formed, then-formed, Well-formed, Wrong-sort, Wrong-datum, No-command}
 
+-- the fields of a row that cites nothing
 abbrev pub no-citations : Fields
 no-citations = record { first = 65535; second = 65535; third = 65535 }
 
@@ -35,13 +36,15 @@ skip-rule-row = record { rule = 10; syntax = 0; premises = no-citations; value =
 abbrev pub Lawful-program : List SyntaxRow → List ℕ → Type 0
 Lawful-program rows spans = Accepted syntax-cites longest-program rows spans × (isOk (formed rows) ≡ true)
 
+-- a derivation has to be accepted and nothing more
 abbrev pub Lawful-derivation : List DerivationRow → List ℕ → Type 0
 Lawful-derivation rows spans = Accepted derivation-cites longest-derivation rows spans
 
--- the answer of filling a place: the spans have to be those that screening writes, and the rows have to form a program
+-- the answer of filling a slot: the spans have to be those that screening writes, and the rows have to form a program
 abbrev pub program-answer : List SyntaxRow → List ℕ → Result (Unit {0}) ProgramFault
 program-answer rows spans = then-formed (confirmed syntax-cites longest-program rows spans) rows
 
+-- a derivation has nothing to form
 abbrev pub derivation-answer : List DerivationRow → List ℕ → Result (Unit {0}) ScreenFault
 derivation-answer rows spans = confirmed derivation-cites longest-derivation rows spans
 

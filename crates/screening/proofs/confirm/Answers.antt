@@ -1,12 +1,7 @@
 use mathlib.Core.Path.{_≡_, refl, sym, _∙_}
-use mathlib.Core.Bool.{false}
 use native.Mathlib.Omega.{arith}
-use lib.Dec.{eqb}
-use lib.ListN.{getD}
-use Rattle.std.proofs.shelf.Tests.{ne-eqb}
 use Rattle.std.proofs.shelf.Results.{err-from-errBy}
 use Rattle.std.specs.declared.result.Result.the-variants.{Err}
-use Rattle.screening.specs.declared.fault.ScreenFault.the-variants.{Citation}
 use Rattle.screening.specs.Spans.{confirmed}
 use Rattle.screening.proofs.Held.{made-always, at-row, rescanned-more, spans-law, confirmed-end}
 use Rattle.screening.proofs.confirm.Needs as need

@@ -2,7 +2,6 @@
 use mathlib.Core.Path.{_≡_, refl, _∙_, ap}
 use native.Mathlib.Omega.{arith}
 use lib.ListN.{length, take}
-use Rattle.std.proofs.shelf.Lists.{length-take-le}
 use Rattle.std.proofs.shelf.Results.{err-from-errBy}
 use Rattle.screening.specs.Screening.{with-row, whole, screened}
 use Rattle.screening.proofs.Scans.{told-err, scanned-none, scanned-more, stopped, stopped-at-row, stopped-at-end}
