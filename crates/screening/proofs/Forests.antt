@@ -1,9 +1,8 @@
 -- Forests and their listings: joined forests, the trees that citations name, and the scan of a listing.
 use mathlib.Core.Path.{_≡_, refl, sym, _∙_, ap, subst}
 use mathlib.Core.Bool.{true}
-use mathlib.Core.Logic.{_⊎_, inl, inr}
 use mathlib.Core.List.{List, [], _∷_, _++_}
-use Prim.Native.Nat.{ℕ, zero, suc, _+_, _-_, _<_}
+use Prim.Native.Nat.{ℕ, _+_, _-_, _<_}
 use native.Mathlib.Omega.{arith}
 use lib.Dec.{eqb}
 use lib.ListN.{length, getD}
@@ -11,10 +10,9 @@ use Rattle.std.proofs.shelf.Tests.{eq-eqb}
 use Rattle.std.proofs.shelf.Lists.{length-push, append-assoc, append-nil, length-append, getD-at}
 use Rattle.std.specs.declared.option.Option.{Option}
 use Rattle.std.specs.declared.option.Option.the-variants.{Some}
-use Rattle.std.specs.Runs.{nth}
 use Rattle.screening.specs.Screening.{before, laid, total, if-some, span-of, or-citation, next-span, with-span, scan}
 use Rattle.screening.specs.Trees.{Forest, bare, plant, size, post, spans-of, roots, Cites}
-use Rattle.screening.proofs.Scans.{none-of, before-is}
+use Rattle.screening.proofs.Scans.{before-is}
 
 abbrev pub join : {R : Type 0} → Forest R → Forest R → Forest R
 join bare h = h
@@ -162,25 +160,3 @@ split f n q (p ∷ ps) m e =
       at = a;
       cites = ap (λ k. k ∷ roots (m + size (l .below) + 1) (i .named)) x ∙ ap (λ k. p ∷ roots k (i .named)) y ∙ ap (λ t. p ∷ t) (i .cites);
     }
-
--- every row of a listing cites something or nothing, and is well-formed in that
-nth-cases : {X : Type 0} (xs ys : List X) (i : ℕ) (x : X) → nth (xs ++ ys) i ≡ Some x → (nth xs i ≡ Some x) ⊎ ((j : ℕ) × (nth ys j ≡ Some x))
-nth-cases [] ys i x e = inr (i, e)
-nth-cases (z ∷ xs) ys zero x e = inl e
-nth-cases (z ∷ xs) ys (suc i) x e = nth-cases xs ys i x e
-
-nth-root : {X : Type 0} (q : X) (xs : List X) (j : ℕ) (x : X) → nth (q ∷ xs) j ≡ Some x → (q ≡ x) ⊎ ((k : ℕ) × (nth xs k ≡ Some x))
-nth-root q xs zero x e = let h : q ≡ x = cc in inl h
-nth-root q xs (suc k) x e = inr (k, e)
-
-pub all-cite : {R : Type 0} (cited : R → Option (List ℕ)) (f : Forest R) (base : ℕ) → Cites cited base f → (i : ℕ) (r : R) → nth (post f) i ≡ Some r → (ps : List ℕ) × (cited r ≡ Some ps)
-all-cite cited bare base k i r e = none-of e
-all-cite cited (plant q c f) base k i r e =
-    elim (nth-cases (post c) (q ∷ post f) i r e) [
-      | inl a ↦ all-cite cited c base (k .0) i r a
-      | inr (j, b) ↦
-          elim (nth-root q (post f) j r b) [
-            | inl x ↦ (roots base c, ap cited (sym x) ∙ k .1)
-            | inr (m, d) ↦ all-cite cited f (base + size c + 1) (k .2) m r d
-          ]
-    ]

@@ -156,6 +156,7 @@ table-law cited limit rows spans a =
       lists = t;
       sizes = sym (a .1) ∙ h .sizes ok t ∙ ap (λ x. spans-of (tree t) ++ x) (drop-all (length rows) spans (omega arith)) ∙ append-nil _;
       one = λ u. h .one u t;
+      citing = h .citing ok;
     }
 
 -- what lists a tree, with its sizes at the front of the spans, is confirmed

@@ -21,6 +21,7 @@ use Rattle.screening.specs.Trees.{bare, size, post, spans-of, tree, Stops-at, 
 use Rattle.screening.specs.Refusals.{screen-refusal}
 use Rattle.screening.proofs.Scans.{none-of, ok-not-err, cases-result}
 use Rattle.screening.proofs.Forests.{length-spans, length-post, scan-post}
+use Rattle.screening.proofs.Citing.{citations}
 use Rattle.screening.proofs.Growth.{Through, Halfway, progress, room-is, is-room, scan-longer, only-tree, tree-scan}
 use Rattle.screening.proofs.Unique.{one-tree}
 
@@ -128,6 +129,7 @@ without-room cited limit rows memory fault e =
           sym e ∙ is-room limit (length rows) (length memory) (omega arith) a b;
       sizes = λ k t. ok-not-err k;
       one = one-tree cited rows;
+      citing = λ k. ok-not-err k;
       wrong-size = λ k. (room-size limit (length rows) (length memory) (e ∙ k), refl);
       wrong-memory = λ k. (room-memory limit (length rows) (length memory) (e ∙ k), refl);
       malformed = λ i k. no-numbers fault (Malformed i) (same-fault fault (Malformed i) k) (λ h. omega arith);
@@ -146,6 +148,7 @@ came-through cited limit rows memory room t =
       every = λ u a b. ap (λ x. x .answer) (sym (t .ends) ∙ tree-scan cited rows u);
       sizes = λ e u. ap (λ x. x ++ drop (length (spans-of f)) memory) (ap (λ x. x .written) (sym (t .ends) ∙ tree-scan cited rows u)) ∙ ap (λ x. spans-of (tree u) ++ drop x memory) n;
       one = one-tree cited rows;
+      citing = λ e. citations cited rows (only-tree cited rows f (r .some) (t .listing) (t .citing) e);
       wrong-size = λ k. no-numbers Size _ (whole-fault (spans-of f) Size k) (λ h. omega arith);
       wrong-memory = λ k. no-numbers Memory _ (whole-fault (spans-of f) Memory k) (λ h. omega arith);
       malformed = λ i k. no-numbers (Malformed i) _ (whole-fault (spans-of f) (Malformed i) k) (λ h. omega arith);
@@ -187,6 +190,7 @@ came-halfway cited limit rows memory h =
       every = λ u a b. ap (λ x. x .answer) (sym (h .ends) ∙ tree-scan cited rows u);
       sizes = λ e u. ok-not-err e;
       one = one-tree cited rows;
+      citing = λ e. ok-not-err e;
       wrong-size = λ k. no-numbers (h .fault) Size (same-fault (h .fault) Size k) (λ e. omega arith);
       wrong-memory = λ k. no-numbers (h .fault) Memory (same-fault (h .fault) Memory k) (λ e. omega arith);
       malformed = λ i k. halfway-malformed cited rows memory h i (same-fault (h .fault) (Malformed i) k);

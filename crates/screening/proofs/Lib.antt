@@ -1,5 +1,6 @@
 pub mod Scans
 pub mod Forests
+pub mod Citing
 pub mod Growth
 pub mod Unique
 pub mod Laws

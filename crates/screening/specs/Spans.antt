@@ -12,7 +12,7 @@ use Rattle.std.specs.declared.result.Result.the-variants.{Ok, Err}
 use Rattle.screening.specs.declared.fault.ScreenFault.{ScreenFault}
 use Rattle.screening.specs.declared.fault.ScreenFault.the-variants.{Citation}
 use Rattle.screening.specs.Screening.{next-span, whole, room-for, screened}
-use Rattle.screening.specs.Trees.{spans-of, Lists, tree}
+use Rattle.screening.specs.Trees.{spans-of, Lists, tree, Citations}
 
 -- whether the span held for a row is the one that it has; any other is refused as a citation of that row
 abbrev pub held-span : ℕ → ℕ → Result ℕ ScreenFault → Result (Unit {0}) ScreenFault
@@ -34,12 +34,14 @@ abbrev pub Accepted : {R : Type 0} → (R → Option (List ℕ)) → ℕ → Lis
 Accepted cited limit rows spans =
     (isOk (screened cited limit rows spans .answer) ≡ true) × (screened cited limit rows spans .written ≡ spans) × (length spans ≡ length rows)
 
--- What is known of a screened table: it is not too long, it lists one tree, and its spans are the sizes of the subtrees.
+-- What is known of a screened table: it is not too long, it lists one tree, its spans are the sizes of the subtrees, and
+-- every citation is of an earlier row that no other row cites.
 pub record Table-law {R : Type 0} (cited : R → Option (List ℕ)) (limit : ℕ) (rows : List R) (spans : List ℕ) : Type 0 where
   pub short : length rows ≤ limit
   pub lists : Lists cited rows
   pub sizes : spans ≡ spans-of (tree lists)
   pub one : (t : Lists cited rows) → tree t ≡ tree lists
+  pub citing : Citations cited rows
 
 -- What confirming spans means. After a screening it gives the screening's answer. It accepts exactly the tables of lawful
 -- length that list one tree, with the sizes of the subtrees at the front of what is held.

@@ -60,6 +60,25 @@ pub record Lists {R : Type 0} (cited : R → Option (List ℕ)) (rows : List R) 
 abbrev pub tree : {R : Type 0} {cited : R → Option (List ℕ)} {rows : List R} → Lists cited rows → Forest R
 tree t = plant (t .root) (t .below) bare
 
+-- a number stands in a list
+abbrev pub Has : ℕ → List ℕ → Type 0
+Has p [] = ⊥
+Has p (q ∷ qs) = (p ≡ q) ⊎ Has p qs
+
+-- row i cites row p
+pub record Row-cites {R : Type 0} (cited : R → Option (List ℕ)) (rows : List R) (i p : ℕ) : Type 0 where
+  pub row : R
+  pub here : nth rows i ≡ Some row
+  pub citations : List ℕ
+  pub known : cited row ≡ Some citations
+  pub cites : Has p citations
+
+-- Every row has its citations, if only an empty list; each is of an earlier row; and no row is cited twice.
+pub record Citations {R : Type 0} (cited : R → Option (List ℕ)) (rows : List R) : Type 0 where
+  pub known : (i : ℕ) (r : R) → nth rows i ≡ Some r → (ps : List ℕ) × (cited r ≡ Some ps)
+  pub earlier : (i p : ℕ) → Row-cites cited rows i p → p < i
+  pub once : (i j p : ℕ) → Row-cites cited rows i p → Row-cites cited rows j p → i ≡ j
+
 -- The rows before row i list trees, whose sizes are written, and with row i they list none.
 pub record Stops-at {R : Type 0} (cited : R → Option (List ℕ)) (rows : List R) (memory written : List ℕ) (i : ℕ) : Type 0 where
   pub within : i < length rows
@@ -82,6 +101,7 @@ pub record Screening-law {R : Type 0} (cited : R → Option (List ℕ)) (limit :
   pub every : Lists cited rows → length rows ≤ limit → length rows ≤ length memory → answer ≡ Ok tt
   pub sizes : answer ≡ Ok tt → (t : Lists cited rows) → written ≡ spans-of (tree t) ++ drop (length rows) memory
   pub one : (s t : Lists cited rows) → tree s ≡ tree t
+  pub citing : answer ≡ Ok tt → Citations cited rows
   pub wrong-size : answer ≡ Err Size → ((length rows ≡ 0) ⊎ (limit < length rows)) × (written ≡ memory)
   pub wrong-memory : answer ≡ Err Memory → (length memory < length rows) × (written ≡ memory)
   pub malformed : (i : ℕ) → answer ≡ Err (Malformed i) → Stops-at cited rows memory written i × ((r : R) → nth rows i ≡ Some r → cited r ≡ None)

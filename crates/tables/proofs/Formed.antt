@@ -23,14 +23,14 @@ use Rattle.tables.specs.declared.fault.ProgramFault.{ProgramFault}
 use Rattle.tables.specs.declared.fault.ProgramFault.the-variants.{Screening, ChildSort, Datum, NotCommand}
 use Rattle.rows.specs.Fields.{in-order}
 use Rattle.rows.specs.Syntax.{kind-of, children-of, admitted}
-use Rattle.tables.specs.Forming.{sort-at, same-sort, is-of, have-sorts, formed-as, formed-row, ends-in-command, formed-from, formed, then-formed, Sorts, Formed-row, Well-formed}
+use Rattle.tables.specs.Forming.{sort-at, same-sort, is-of, have-sorts, formed-as, formed-row, ends-in-command, formed-from, formed, then-formed, Sorts, Formed-row, Well-formed, Reached}
 use Rattle.rows.specs.Citing.{longest-program, children-cited, syntax-cites}
 use Rattle.rows.specs.declared.fields.Fields.{Fields}
 use Rattle.screening.specs.Spans.{confirmed, Accepted, Spans-law}
 use Rattle.tables.specs.Screened.{Lawful-program, Refused, Program-law}
 use Rattle.screening.proofs.Scans.{none-of, not-ok, ok-not-err, cases-result}
-use Rattle.screening.proofs.Forests.{length-post, all-cite}
-use Rattle.screening.specs.Trees.{size, Lists, tree}
+use Rattle.screening.proofs.Forests.{length-post}
+use Rattle.screening.specs.Trees.{size, Lists, tree, Citations}
 use Rattle.std.proofs.shelf.Maps.{nth-past}
 
 same-sort-is : (s t : Sort) → same-sort s t ≡ true → t ≡ s
@@ -138,20 +138,22 @@ Known rows = (k : ℕ) (row : SyntaxRow) → nth rows k ≡ Some row → (kind :
 is-refused : (rows : List SyntaxRow) (spans : List ℕ) (fault found : ProgramFault) → _≡_ {A = Result (Unit {0}) ProgramFault} (Err found) (Err fault) → Refused rows spans found → Refused rows spans fault
 is-refused rows spans fault found e h = let q : found ≡ fault = cc in subst (λ (f : ProgramFault). Refused rows spans f) q h
 
-row-refused : (rows : List SyntaxRow) (spans : List ℕ) (i : ℕ) (row : SyntaxRow) → nth rows i ≡ Some row → Before rows i → (kind : Kind) → kind-of (row .kind) ≡ Some kind → (fault : ProgramFault) → formed-row rows i row ≡ Err fault → Refused rows spans fault
-row-refused rows spans i row here before kind known fault e =
-    let e′ : formed-as rows i row (Some kind) ≡ Err fault = ap (formed-as rows i row) (sym known) ∙ e in
+row-refused : (rows : List SyntaxRow) (spans : List ℕ) (i : ℕ) (at : Reached rows i) (fault : ProgramFault) → formed-row rows i (at .row) ≡ Err fault → Refused rows spans fault
+row-refused rows spans i at fault e =
+    let kind = at .kind in
+    let row = at .row in
+    let e′ : formed-as rows i row (Some kind) ≡ Err fault = ap (formed-as rows i row) (sym (at .known)) ∙ e in
     elim (cases-bool (have-sorts rows (children-of kind) (in-order (row .children)))) [
       | inl s ↦
           elim (cases-bool (admitted kind (row .datum))) [
             | inl d ↦ let x : Ok tt ≡ Err fault = rw (s, d) at e′ in ok-not-err (sym x)
             | inr d ↦
                 let x : Err (Datum i) ≡ Err fault = rw (s, d) at e′ in
-                is-refused rows spans fault (Datum i) x (record { before = before; row = row; here = here; kind = kind; known = known; sorts = sorted-sorts rows (children-of kind) (in-order (row .children)) s; wrong = d })
+                is-refused rows spans fault (Datum i) x (record { at = at; sorts = sorted-sorts rows (children-of kind) (in-order (row .children)) s; wrong = d })
           ]
       | inr s ↦
           let x : Err (ChildSort i) ≡ Err fault = rw s at e′ in
-          is-refused rows spans fault (ChildSort i) x (record { before = before; row = row; here = here; kind = kind; known = known; wrong = λ h. not-ok (sym s ∙ sorts-sorted rows (children-of kind) (in-order (row .children)) h) })
+          is-refused rows spans fault (ChildSort i) x (record { at = at; wrong = λ h. not-ok (sym s ∙ sorts-sorted rows (children-of kind) (in-order (row .children)) h) })
     ]
 
 within : (rows : List SyntaxRow) (k : ℕ) (row : SyntaxRow) → nth rows k ≡ Some row → k < length rows
@@ -192,7 +194,7 @@ forming-refused rows spans z known i (r ∷ rs) n link before fault e =
       | inr (other, o) ↦
           let x : Err other ≡ Err fault = sym (ap (λ x. andOther x (formed-from rows (i + 1) rs)) o) ∙ e in
           let q : formed-row rows i r ≡ Err fault = o ∙ x in
-          row-refused rows spans i r here before kind k fault q
+          row-refused rows spans i (record { before = before; row = r; here = here; kind = kind; known = k }) fault q
     ]
 
 -- every kind is known among rows that list a tree
@@ -200,9 +202,9 @@ kind-cites : (o : Option Kind) (fields : Fields) (ps : List ℕ) → children-ci
 kind-cites None fields ps e = none-of e
 kind-cites (Some kind) fields ps e = (kind, refl)
 
-all-known : (rows : List SyntaxRow) → Lists syntax-cites rows → Known rows
-all-known rows t k row n =
-    let (ps, c) = all-cite syntax-cites (tree t) 0 (t .citing) k row (ap (λ xs. nth xs k) (sym (t .listing)) ∙ n) in
+all-known : (rows : List SyntaxRow) → Citations syntax-cites rows → Known rows
+all-known rows h k row n =
+    let (ps, c) = h .known k row n in
     kind-cites (kind-of (row .kind)) (row .children) ps c
 
 some-rows : (rows : List SyntaxRow) → Lists syntax-cites rows → 0 < length rows
@@ -215,8 +217,9 @@ and-formed (Err fault) rows e = ok-not-err e
 
 then-refused : (rows : List SyntaxRow) (spans : List ℕ) (a : Result (Unit {0}) ScreenFault) → a ≡ confirmed syntax-cites longest-program rows spans → Spans-law syntax-cites longest-program rows spans a → (fault : ProgramFault) → then-formed a rows ≡ Err fault → Refused rows spans fault
 then-refused rows spans (Ok tt) c law fault e =
-    let t = law .only refl .lists in
-    forming-refused rows spans (some-rows rows t) (all-known rows t) 0 rows (omega arith) (λ k. ap (nth rows) (omega arith)) (λ k row l n. let no : ⊥ = omega arith in absurd no) fault e
+    let table = law .only refl in
+    let t = table .lists in
+    forming-refused rows spans (some-rows rows t) (all-known rows (table .citing)) 0 rows (omega arith) (λ k. ap (nth rows) (omega arith)) (λ k row l n. let no : ⊥ = omega arith in absurd no) fault e
 then-refused rows spans (Err other) c law fault e = is-refused rows spans fault (Screening other) e (sym c)
 
 pub program-law : (rows : List SyntaxRow) (spans : List ℕ) (a : Result (Unit {0}) ScreenFault) → a ≡ confirmed syntax-cites longest-program rows spans → Spans-law syntax-cites longest-program rows spans a → (answer : Result (Unit {0}) ProgramFault) → answer ≡ then-formed a rows → Program-law rows spans answer

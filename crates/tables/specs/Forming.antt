@@ -106,24 +106,24 @@ pub record Well-formed (rows : List SyntaxRow) : Type 0 where
   pub each : (i : ℕ) (row : SyntaxRow) → nth rows i ≡ Some row → Formed-row rows row
   pub command : sort-at rows (length rows - 1) ≡ Some Command
 
--- Row i has a child of another sort, and the rows before it are formed.
-pub record Wrong-sort (rows : List SyntaxRow) (i : ℕ) : Type 0 where
+-- row i, of a known kind, after rows that are all formed
+pub record Reached (rows : List SyntaxRow) (i : ℕ) : Type 0 where
   pub before : (k : ℕ) (row : SyntaxRow) → k < i → nth rows k ≡ Some row → Formed-row rows row
   pub row : SyntaxRow
   pub here : nth rows i ≡ Some row
   pub kind : Kind
   pub known : kind-of (row .kind) ≡ Some kind
-  pub wrong : Sorts rows (children-of kind) (in-order (row .children)) → ⊥
 
--- Row i has a datum that its kind may not hold; its children are as they should be, and the rows before it are formed.
+-- Row i has a child of another sort.
+pub record Wrong-sort (rows : List SyntaxRow) (i : ℕ) : Type 0 where
+  pub at : Reached rows i
+  pub wrong : Sorts rows (children-of (at .kind)) (in-order (at .row .children)) → ⊥
+
+-- Row i has children of its sorts, and a datum that its kind may not hold.
 pub record Wrong-datum (rows : List SyntaxRow) (i : ℕ) : Type 0 where
-  pub before : (k : ℕ) (row : SyntaxRow) → k < i → nth rows k ≡ Some row → Formed-row rows row
-  pub row : SyntaxRow
-  pub here : nth rows i ≡ Some row
-  pub kind : Kind
-  pub known : kind-of (row .kind) ≡ Some kind
-  pub sorts : Sorts rows (children-of kind) (in-order (row .children))
-  pub wrong : admitted kind (row .datum) ≡ false
+  pub at : Reached rows i
+  pub sorts : Sorts rows (children-of (at .kind)) (in-order (at .row .children))
+  pub wrong : admitted (at .kind) (at .row .datum) ≡ false
 
 -- All rows are formed, and the last one, i, is not a command.
 pub record No-command (rows : List SyntaxRow) (i : ℕ) : Type 0 where
