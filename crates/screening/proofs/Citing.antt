@@ -8,7 +8,7 @@ use lib.ListN.{length}
 use Rattle.std.specs.Runs.{nth}
 use Rattle.std.specs.declared.option.Option.{Option}
 use Rattle.std.specs.declared.option.Option.the-variants.{Some}
-use Rattle.screening.specs.Trees.{Forest, bare, plant, size, post, roots, Cites, Lists, tree, Has, Row-cites, Citations}
+use Rattle.screening.specs.Trees.{Forest, bare, plant, size, post, roots, Cites, Lists, tree, Has, Ascending, Row-cites, Citations}
 use Rattle.screening.proofs.Scans.{none-of}
 use Rattle.screening.proofs.Forests.{length-post}
 
@@ -24,6 +24,11 @@ roots-within base (plant q c f) p (inl e) = (omega arith, omega arith)
 roots-within base (plant q c f) p (inr h) =
     let (a, b) = roots-within (base + size c + 1) f p h in
     (omega arith, omega arith)
+
+roots-ascend : {R : Type 0} (base : ℕ) (f : Forest R) → Ascending (roots base f)
+roots-ascend base bare = tt
+roots-ascend base (plant q c f) =
+    (λ p h. let w = roots-within (base + size c + 1) f p h in omega arith, roots-ascend (base + size c + 1) f)
 
 at-within : {R : Type 0} (base : ℕ) (f : Forest R) (i p : ℕ) → At base f i p → (base ≤ p) × (p < i) × (i < base + size f)
 at-within base bare i p h = absurd h
@@ -92,25 +97,25 @@ nth-cases (z ∷ xs) y ys (suc i) x e =
     ]
 
 -- what a row of a listing cites
-cites-at : {R : Type 0} (cited : R → Option (List ℕ)) (f : Forest R) (base : ℕ) → Cites cited base f → (i : ℕ) (r : R) → nth (post f) i ≡ Some r → (ps : List ℕ) × (cited r ≡ Some ps) × ((p : ℕ) → Has p ps → At base f (base + i) p)
+cites-at : {R : Type 0} (cited : R → Option (List ℕ)) (f : Forest R) (base : ℕ) → Cites cited base f → (i : ℕ) (r : R) → nth (post f) i ≡ Some r → (ps : List ℕ) × (cited r ≡ Some ps) × Ascending ps × ((p : ℕ) → Has p ps → At base f (base + i) p)
 cites-at cited bare base k i r e = none-of e
 cites-at cited (plant q c f) base k i r e =
     elim (nth-cases (post c) q (post f) i r e) [
       | inl a ↦
-          let (ps, known, at) = cites-at cited c base (k .0) i r a in
-          (ps, known, λ p h. inl (at p h))
+          let (ps, known, up, at) = cites-at cited c base (k .0) i r a in
+          (ps, known, up, λ p h. inl (at p h))
       | inr (inl (n, x)) ↦
           let m : base + i ≡ base + size c = omega (arith, length-post c) in
-          (roots base c, ap cited (sym x) ∙ k .1, λ p h. inr (inl (m, h)))
+          (roots base c, ap cited (sym x) ∙ k .1, roots-ascend base c, λ p h. inr (inl (m, h)))
       | inr (inr (j, n, a)) ↦
-          let (ps, known, at) = cites-at cited f (base + size c + 1) (k .2) j r a in
+          let (ps, known, up, at) = cites-at cited f (base + size c + 1) (k .2) j r a in
           let m : base + size c + 1 + j ≡ base + i = omega (arith, length-post c) in
-          (ps, known, λ p h. inr (inr (subst (λ (x : ℕ). At (base + size c + 1) f x p) m (at p h))))
+          (ps, known, up, λ p h. inr (inr (subst (λ (x : ℕ). At (base + size c + 1) f x p) m (at p h))))
     ]
 
 row-cites : {R : Type 0} (cited : R → Option (List ℕ)) (rows : List R) (t : Lists cited rows) (i p : ℕ) → Row-cites cited rows i p → At 0 (tree t) i p
 row-cites cited rows t i p h =
-    let (ps, known, at) = cites-at cited (tree t) 0 (t .citing) i (h .row) (ap (λ xs. nth xs i) (sym (t .listing)) ∙ h .here) in
+    let (ps, known, up, at) = cites-at cited (tree t) 0 (t .citing) i (h .row) (ap (λ xs. nth xs i) (sym (t .listing)) ∙ h .here) in
     let same : Some (h .citations) ≡ Some ps = sym (h .known) ∙ known in
     let q : h .citations ≡ ps = cc in
     let n : 0 + i ≡ i = omega arith in
@@ -120,7 +125,7 @@ pub citations : {R : Type 0} (cited : R → Option (List ℕ)) (rows : List R) �
 citations cited rows t =
     let at : (i p : ℕ) → Row-cites cited rows i p → At 0 (tree t) i p = row-cites cited rows t in
     record {
-      known = λ i r e. let (ps, known, _) = cites-at cited (tree t) 0 (t .citing) i r (ap (λ xs. nth xs i) (sym (t .listing)) ∙ e) in (ps, known);
+      known = λ i r e. let (ps, known, up, _) = cites-at cited (tree t) 0 (t .citing) i r (ap (λ xs. nth xs i) (sym (t .listing)) ∙ e) in (ps, known, up);
       earlier = λ i p h. at-within 0 (tree t) i p (at i p h) .1;
       once = λ i j p h k. at-once 0 (tree t) i j p (at i p h) (at j p k);
     }

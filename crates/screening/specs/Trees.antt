@@ -65,6 +65,11 @@ abbrev pub Has : ℕ → List ℕ → Type 0
 Has p [] = ⊥
 Has p (q ∷ qs) = (p ≡ q) ⊎ Has p qs
 
+-- each number is below all that follow it
+abbrev pub Ascending : List ℕ → Type 0
+Ascending [] = Unit {0}
+Ascending (p ∷ ps) = ((q : ℕ) → Has q ps → p < q) × Ascending ps
+
 -- row i cites row p
 pub record Row-cites {R : Type 0} (cited : R → Option (List ℕ)) (rows : List R) (i p : ℕ) : Type 0 where
   pub row : R
@@ -73,9 +78,10 @@ pub record Row-cites {R : Type 0} (cited : R → Option (List ℕ)) (rows : List
   pub known : cited row ≡ Some citations
   pub cites : Has p citations
 
--- Every row has its citations, if only an empty list; each is of an earlier row; and no row is cited twice.
+-- Every row has its citations, if only an empty list, and they ascend; each is of an earlier row; and no two rows cite
+-- one row.
 pub record Citations {R : Type 0} (cited : R → Option (List ℕ)) (rows : List R) : Type 0 where
-  pub known : (i : ℕ) (r : R) → nth rows i ≡ Some r → (ps : List ℕ) × (cited r ≡ Some ps)
+  pub known : (i : ℕ) (r : R) → nth rows i ≡ Some r → (ps : List ℕ) × (cited r ≡ Some ps) × Ascending ps
   pub earlier : (i p : ℕ) → Row-cites cited rows i p → p < i
   pub once : (i j p : ℕ) → Row-cites cited rows i p → Row-cites cited rows j p → i ≡ j
 

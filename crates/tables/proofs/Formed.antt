@@ -204,7 +204,7 @@ kind-cites (Some kind) fields ps e = (kind, refl)
 
 all-known : (rows : List SyntaxRow) → Citations syntax-cites rows → Known rows
 all-known rows h k row n =
-    let (ps, c) = h .known k row n in
+    let (ps, c, _) = h .known k row n in
     kind-cites (kind-of (row .kind)) (row .children) ps c
 
 some-rows : (rows : List SyntaxRow) → Lists syntax-cites rows → 0 < length rows
