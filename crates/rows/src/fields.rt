@@ -14,17 +14,20 @@ pub struct Fields {
     pub third: u16,
 }
 
+// The fields of a row that cites nothing.
+pub const NO_CITATIONS: Fields = Fields {
+    first: UNUSED,
+    second: UNUSED,
+    third: UNUSED,
+};
+
 impl Fields {
     // The fields of a row that cites these rows and no more.
     pub fn citing(cited: Few<u16>) -> Fields
         ensures { λ r. ⌜ in-order r ≡ padded (listed cited) ⌝ }
     {
         match cited {
-            Few::Zero => Fields {
-                first: UNUSED,
-                second: UNUSED,
-                third: UNUSED,
-            },
+            Few::Zero => NO_CITATIONS,
             Few::One(a) => Fields {
                 first: a,
                 second: UNUSED,

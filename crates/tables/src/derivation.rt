@@ -8,8 +8,7 @@ ghost use Rattle.tables.specs.Screened.{skip-rule-row, Lawful-derivation, deri
 use rows::citing::DerivationCiting;
 use rows::derivation::DerivationRow;
 use rows::derivation::Rule;
-use rows::fields::Fields;
-use rows::fields::UNUSED;
+use rows::fields::NO_CITATIONS;
 use screening::confirm;
 use screening::fault::ScreenFault;
 
@@ -41,11 +40,7 @@ pub struct Derivation<'r, 's> {
 static SKIP: [DerivationRow; 1] = [DerivationRow {
     rule: Rule::Skip as u8,
     syntax: 0,
-    premises: Fields {
-        first: UNUSED,
-        second: UNUSED,
-        third: UNUSED,
-    },
+    premises: NO_CITATIONS,
     value: 0,
 }];
 

@@ -13,8 +13,7 @@ use crate::fault::ProgramFault;
 use crate::fault::ScreeningFrom;
 use crate::forming::check_rows;
 use rows::citing::SyntaxCiting;
-use rows::fields::Fields;
-use rows::fields::UNUSED;
+use rows::fields::NO_CITATIONS;
 use rows::syntax::Kind;
 use rows::syntax::SyntaxRow;
 use screening::confirm;
@@ -56,11 +55,7 @@ pub struct Program<'r, 's> {
 
 static SKIP: [SyntaxRow; 1] = [SyntaxRow {
     kind: Kind::Skip as u8,
-    children: Fields {
-        first: UNUSED,
-        second: UNUSED,
-        third: UNUSED,
-    },
+    children: NO_CITATIONS,
     datum: 0,
 }];
 
