@@ -1,15 +1,15 @@
 -- The scan of a table whose spans are held: each turn of its loop, and what it says of the screening.
-use mathlib.Core.Path.{_≡_, refl, sym, _∙_, ap}
+use mathlib.Core.Path.{_≡_, refl, sym, _∙_, ap, subst}
 use mathlib.Core.Bool.{true}
-use mathlib.Core.Logic.{inl, inr}
+use mathlib.Core.Logic.{_⊎_, inl, inr}
 use mathlib.Core.List.{List, [], _∷_, _++_}
 use Prim.Native.Nat.{ℕ, _+_, _-_, _<_, _≤_}
 use native.Mathlib.Omega.{arith}
 use lib.Dec.{eqb}
 use lib.ListN.{length, getD, take, drop}
 use Rattle.std.proofs.shelf.Results.{made-at-ok}
-use Rattle.std.proofs.shelf.Tests.{cases-bool, eqb-true, eq-eqb}
-use Rattle.std.proofs.shelf.Lists.{at-drop-more, at-drop-all, take-more, length-take-le, append-assoc, append-nil, length-append, length-push, length-drop, getD-at, drop-all}
+use Rattle.std.proofs.shelf.Tests.{cases-bool, eqb-true, eqb-false, eq-eqb}
+use Rattle.std.proofs.shelf.Lists.{at-drop-more, at-drop-all, take-more, take-at, take-append-le, length-take-le, append-assoc, append-nil, length-append, length-push, length-drop, getD-at, getD-append-left, drop-all}
 use Rattle.std.specs.declared.option.Option.{Option}
 use Rattle.std.specs.Results.{isOk, andOther}
 use Rattle.std.specs.Vec.{made}
@@ -17,8 +17,8 @@ use Rattle.std.specs.declared.result.Result.{Result}
 use Rattle.std.specs.declared.result.Result.the-variants.{Ok, Err}
 use Rattle.screening.specs.declared.fault.ScreenFault.{ScreenFault}
 use Rattle.screening.specs.declared.fault.ScreenFault.the-variants.{Citation}
-use Rattle.screening.specs.Screening.{next-span, with-span, whole, scan, room-for, Fits, over, screened}
-use Rattle.screening.specs.Spans.{held-span, rescan, confirmed, Accepted, Table-law, Spans-law}
+use Rattle.screening.specs.Screening.{Screened, next-span, with-span, whole, scan, room-for, Fits, over, screened}
+use Rattle.screening.specs.Spans.{held-span, rescan, confirmed, Accepted, Table-law, Unconfirmed, Spans-law}
 use Rattle.screening.proofs.Scans.{not-ok, ok-not-err, cases-result, bounded-next, Scanned, scanned-none, here, stopped-at-end}
 use Rattle.screening.specs.Trees.{size, spans-of, Lists, tree}
 use Rattle.screening.proofs.Growth.{room-is, is-room, tree-scan}
@@ -169,12 +169,88 @@ tree-confirmed cited limit rows held t short rest e =
     let c : confirmed cited limit rows held ≡ rescan cited rows [] held = rw room refl in
     c ∙ rescan-agrees cited rows [] rest held (e ∙ ap (λ x. x .written ++ rest) (sym s)) ∙ ap (λ x. x .answer) s
 
+-- where the spans written and the spans held part
+record Apart-at (written held : List ℕ) (i : ℕ) : Type 0 where
+  within : i < length written
+  before : take i held ≡ take i written
+  here : getD held i 0 ≡ getD written i 0 → ⊥
+
+abbrev Refusal-of : Screened → List ℕ → ScreenFault → Type 0
+Refusal-of s held fault = (s .answer ≡ Err fault) ⊎ ((i : ℕ) × (fault ≡ Citation i) × Apart-at (s .written) held i)
+
+apart-here : {R : Type 0} (cited : R → Option (List ℕ)) (rs : List R) (done held : List ℕ) (s : ℕ) → take (length done) held ≡ done → (s ≡ getD held (length done) 0 → ⊥) → Apart-at (scan cited rs (done ++ s ∷ []) .written) held (length done)
+apart-here cited rs done held s front other =
+    let m = scan-front cited rs (done ++ s ∷ []) in
+    let w : scan cited rs (done ++ s ∷ []) .written ≡ done ++ (s ∷ m .0) = m .1 ∙ append-assoc done (s ∷ []) (m .0) in
+    let g : getD (scan cited rs (done ++ s ∷ []) .written) (length done) 0 ≡ s = ap (λ xs. getD xs (length done) 0) w ∙ getD-at done s (m .0) 0 (length done) refl in
+    record {
+      within = omega (arith, ap length w, length-append done (s ∷ m .0));
+      before = front ∙ sym (ap (take (length done)) w ∙ take-at done (s ∷ m .0) (length done) refl);
+      here = λ e. other (sym g ∙ sym e);
+    }
+
+rescan-refused : {R : Type 0} (cited : R → Option (List ℕ)) (rs : List R) (done held : List ℕ) → take (length done) held ≡ done → length done + length rs ≤ length held → (fault : ScreenFault) → rescan cited rs done held ≡ Err fault → Refusal-of (scan cited rs done) held fault
+rescan-refused cited [] done held front room fault e = inl e
+rescan-refused cited (r ∷ rs) done held front room fault e =
+    let h = getD held (length done) 0 in
+    elim (cases-result (next-span (cited r) done)) [
+      | inr (f, o) ↦
+          let x : Err f ≡ Err fault = rw o at e in
+          let y : scan cited (r ∷ rs) done .answer ≡ Err f = rw o refl in
+          inl (y ∙ x)
+      | inl (s, o) ↦
+          let w : scan cited (r ∷ rs) done ≡ scan cited rs (done ++ s ∷ []) = rw o refl in
+          elim (cases-bool (eqb s h)) [
+            | inl t ↦
+                let q : s ≡ h = eqb-true _ _ t in
+                let x : rescan cited rs (done ++ h ∷ []) held ≡ Err fault = rw (o, t) at e in
+                let n : length (done ++ h ∷ []) ≡ length done + 1 = length-push done h in
+                let on : take (length (done ++ h ∷ [])) held ≡ done ++ h ∷ [] = ap (λ k. take k held) n ∙ take-more held (length done) 0 (omega arith) ∙ ap (λ xs. xs ++ h ∷ []) front in
+                let i = rescan-refused cited rs (done ++ h ∷ []) held on (omega arith) fault x in
+                subst (λ (z : Screened). Refusal-of z held fault) (sym (w ∙ ap (λ k. scan cited rs (done ++ k ∷ [])) q)) i
+            | inr t ↦
+                let x : Err (Citation (length done)) ≡ Err fault = rw (o, t) at e in
+                let q : fault ≡ Citation (length done) = cc in
+                let a = apart-here cited rs done held s front (eqb-false _ _ t) in
+                inr (length done, q, subst (λ (z : Screened). Apart-at (z .written) held (length done)) (sym w) a)
+          ]
+    ]
+
+confirmed-refused : {R : Type 0} (cited : R → Option (List ℕ)) (limit : ℕ) (rows : List R) (held : List ℕ) (fault : ScreenFault) → confirmed cited limit rows held ≡ Err fault → Unconfirmed cited limit rows held fault
+confirmed-refused cited limit rows held fault e =
+    elim (cases-result (room-for limit (length rows) (length held))) [
+      | inr (f, room) ↦
+          let x : Err f ≡ Err fault = rw room at e in
+          let y : screened cited limit rows held .answer ≡ Err f = rw room refl in
+          inl (y ∙ x)
+      | inl (_, room) ↦
+          let fits = room-is limit (length rows) (length held) room in
+          let x : rescan cited rows [] held ≡ Err fault = rw room at e in
+          let s : screened cited limit rows held ≡ over (scan cited rows []) held = rw room refl in
+          let w = scan cited rows [] .written in
+          let short : length w ≤ 0 + length rows = scan-length cited rows [] in
+          elim (rescan-refused cited rows [] held refl (omega arith) fault x) [
+            | inl y ↦ inl (ap (λ z. z .answer) s ∙ y)
+            | inr (i, q, a) ↦
+                inr (
+                  i,
+                  q,
+                  record {
+                    within = omega (arith, a .within);
+                    before = a .before ∙ sym (ap (λ z. take i (z .written)) s ∙ take-append-le i w (drop (length w) held) (omega (arith, a .within)));
+                    here = λ k. a .here (k ∙ ap (λ z. getD (z .written) i 0) s ∙ getD-append-left w (drop (length w) held) 0 i (a .within));
+                  },
+                )
+          ]
+    ]
+
 pub spans-law : {R : Type 0} (cited : R → Option (List ℕ)) (limit : ℕ) (rows : List R) (held : List ℕ) (answer : Result (Unit {0}) ScreenFault) → answer ≡ confirmed cited limit rows held → made answer (λ _. Accepted cited limit rows (take (length rows) held)) → Spans-law cited limit rows held answer
 spans-law cited limit rows held answer e a =
     record {
       screened-first = λ memory h. e ∙ screened-confirmed cited limit rows memory held h;
       only = λ ok. table-law cited limit rows (take (length rows) held) (made-at-ok _ ok a);
       every = λ t short rest h. e ∙ tree-confirmed cited limit rows held t short rest h;
+      refused = λ fault k. confirmed-refused cited limit rows held fault (sym e ∙ k);
     }
 
 -- where the loop came to its end

@@ -50,11 +50,12 @@ abbrev pub next-span : Option (List ℕ) → List ℕ → Result ℕ ScreenFault
 next-span None done = Err (Malformed (length done))
 next-span (Some ps) done = or-citation (length done) (span-of done ps)
 
--- whether a row has a span, and the memory after row i: with its span, or as it was
+-- whether a row has a span
 abbrev pub told : Result ℕ ScreenFault → Result (Unit {0}) ScreenFault
 told (Err fault) = Err fault
 told (Ok s) = Ok tt
 
+-- the memory after row i: with its span, or as it was
 abbrev pub with-row : List ℕ → ℕ → Result ℕ ScreenFault → List ℕ
 with-row spans i (Err fault) = spans
 with-row spans i (Ok s) = set spans i s
@@ -83,7 +84,7 @@ abbrev pub room-for : ℕ → ℕ → ℕ → Result (Unit {0}) ScreenFault
 room-for limit rows memory =
     cond (eqb rows 0 || ltb limit rows) (Err Size) (cond (ltb memory rows) (Err Memory) (Ok tt))
 
--- a table that may
+-- such a table: it has rows, not too many, and there is memory for their spans
 pub record Fits (limit rows memory : ℕ) : Type 0 where
   pub some : 0 < rows
   pub short : rows ≤ limit

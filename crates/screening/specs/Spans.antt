@@ -1,8 +1,9 @@
 -- Tables whose spans are held already, and tables that are accepted.
 use mathlib.Core.Path.{_≡_}
 use mathlib.Core.Bool.{true, cond}
+use mathlib.Core.Logic.{_⊎_}
 use mathlib.Core.List.{List, [], _∷_, _++_}
-use Prim.Native.Nat.{ℕ, _≤_}
+use Prim.Native.Nat.{ℕ, _<_, _≤_}
 use lib.Dec.{eqb}
 use lib.ListN.{length, getD, take}
 use Rattle.std.specs.declared.option.Option.{Option}
@@ -43,9 +44,22 @@ pub record Table-law {R : Type 0} (cited : R → Option (List ℕ)) (limit : ℕ
   pub one : (t : Lists cited rows) → tree t ≡ tree lists
   pub citing : Citations cited rows
 
+-- Row i is the first whose span is held as another than screening writes.
+pub record Differs-at {R : Type 0} (cited : R → Option (List ℕ)) (limit : ℕ) (rows : List R) (held : List ℕ) (i : ℕ) : Type 0 where
+  pub within : i < length rows
+  pub before : take i held ≡ take i (screened cited limit rows held .written)
+  pub here : getD held i 0 ≡ getD (screened cited limit rows held .written) i 0 → ⊥
+
+-- what a refusal says: it is that of a screening, or it is at the first row whose span is held as another
+abbrev pub Unconfirmed : {R : Type 0} → (R → Option (List ℕ)) → ℕ → List R → List ℕ → ScreenFault → Type 0
+Unconfirmed cited limit rows held fault =
+    (screened cited limit rows held .answer ≡ Err fault) ⊎ ((i : ℕ) × (fault ≡ Citation i) × Differs-at cited limit rows held i)
+
 -- What confirming spans means. After a screening it gives the screening's answer. It accepts exactly the tables of lawful
--- length that list one tree, with the sizes of the subtrees at the front of what is held.
+-- length that list one tree, with the sizes of the subtrees at the front of what is held. A refusal says
+-- what is wrong.
 pub record Spans-law {R : Type 0} (cited : R → Option (List ℕ)) (limit : ℕ) (rows : List R) (held : List ℕ) (answer : Result (Unit {0}) ScreenFault) : Type 0 where
   pub screened-first : (memory : List ℕ) → held ≡ screened cited limit rows memory .written → answer ≡ screened cited limit rows memory .answer
   pub only : answer ≡ Ok tt → Table-law cited limit rows (take (length rows) held)
   pub every : (t : Lists cited rows) → length rows ≤ limit → (rest : List ℕ) → held ≡ spans-of (tree t) ++ rest → answer ≡ Ok tt
+  pub refused : (fault : ScreenFault) → answer ≡ Err fault → Unconfirmed cited limit rows held fault

@@ -26,7 +26,7 @@ use Rattle.rows.specs.Syntax.{kind-of, children-of, admitted}
 use Rattle.tables.specs.Forming.{sort-at, same-sort, is-of, have-sorts, formed-as, formed-row, ends-in-command, formed-from, formed, then-formed, Sorts, Formed-row, Well-formed, Reached}
 use Rattle.rows.specs.Citing.{longest-program, children-cited, syntax-cites}
 use Rattle.rows.specs.declared.fields.Fields.{Fields}
-use Rattle.screening.specs.Spans.{confirmed, Accepted, Spans-law}
+use Rattle.screening.specs.Spans.{Accepted, Spans-law}
 use Rattle.tables.specs.Screened.{Lawful-program, Refused, Program-law}
 use Rattle.screening.proofs.Scans.{none-of, not-ok, ok-not-err, cases-result}
 use Rattle.screening.proofs.Forests.{length-post}
@@ -215,20 +215,20 @@ and-formed : (a : Result (Unit {0}) ScreenFault) (rows : List SyntaxRow) → the
 and-formed (Ok tt) rows e = (refl, e)
 and-formed (Err fault) rows e = ok-not-err e
 
-then-refused : (rows : List SyntaxRow) (spans : List ℕ) (a : Result (Unit {0}) ScreenFault) → a ≡ confirmed syntax-cites longest-program rows spans → Spans-law syntax-cites longest-program rows spans a → (fault : ProgramFault) → then-formed a rows ≡ Err fault → Refused rows spans fault
-then-refused rows spans (Ok tt) c law fault e =
+then-refused : (rows : List SyntaxRow) (spans : List ℕ) (a : Result (Unit {0}) ScreenFault) → Spans-law syntax-cites longest-program rows spans a → (fault : ProgramFault) → then-formed a rows ≡ Err fault → Refused rows spans fault
+then-refused rows spans (Ok tt) law fault e =
     let table = law .only refl in
     let t = table .lists in
     forming-refused rows spans (some-rows rows t) (all-known rows (table .citing)) 0 rows (omega arith) (λ k. ap (nth rows) (omega arith)) (λ k row l n. let no : ⊥ = omega arith in absurd no) fault e
-then-refused rows spans (Err other) c law fault e = is-refused rows spans fault (Screening other) e (sym c)
+then-refused rows spans (Err other) law fault e = is-refused rows spans fault (Screening other) e (law .refused other refl)
 
-pub program-law : (rows : List SyntaxRow) (spans : List ℕ) (a : Result (Unit {0}) ScreenFault) → a ≡ confirmed syntax-cites longest-program rows spans → Spans-law syntax-cites longest-program rows spans a → (answer : Result (Unit {0}) ProgramFault) → answer ≡ then-formed a rows → Program-law rows spans answer
-program-law rows spans a c law answer e =
+pub program-law : (rows : List SyntaxRow) (spans : List ℕ) (a : Result (Unit {0}) ScreenFault) → Spans-law syntax-cites longest-program rows spans a → (answer : Result (Unit {0}) ProgramFault) → answer ≡ then-formed a rows → Program-law rows spans answer
+program-law rows spans a law answer e =
     record {
       screened-first = λ memory h. e ∙ ap (λ x. then-formed x rows) (law .screened-first memory h);
       only = λ ok. let (x, y) = and-formed a rows (sym e ∙ ok) in (law .only x, formed-well rows y);
       every = λ t short rest h w. e ∙ ap (λ x. then-formed x rows) (law .every t short rest h) ∙ well-formed rows w;
-      refused = λ fault k. then-refused rows spans a c law fault (sym e ∙ k);
+      refused = λ fault k. then-refused rows spans a law fault (sym e ∙ k);
     }
 
 -- and what is known where it accepts

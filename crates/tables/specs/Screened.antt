@@ -17,7 +17,7 @@ use Rattle.tables.specs.declared.fault.ProgramFault.the-variants.{Screening, C
 use Rattle.rows.specs.Citing.{longest-program, longest-derivation, syntax-cites, derivation-cites}
 use Rattle.screening.specs.Screening.{screened}
 use Rattle.screening.specs.Trees.{spans-of, Lists, tree}
-use Rattle.screening.specs.Spans.{confirmed, Accepted, Table-law}
+use Rattle.screening.specs.Spans.{confirmed, Accepted, Table-law, Unconfirmed}
 use Rattle.tables.specs.Forming.{formed, then-formed, Well-formed, Wrong-sort, Wrong-datum, No-command}
 
 -- the fields of a row that cites nothing
@@ -55,7 +55,7 @@ Filled (Err _) before after rows spans raw-rows raw-spans = after ≡ before
 
 -- what each refusal says of the rows
 abbrev pub Refused : List SyntaxRow → List ℕ → ProgramFault → Type 0
-Refused rows spans (Screening fault) = confirmed syntax-cites longest-program rows spans ≡ Err fault
+Refused rows spans (Screening fault) = Unconfirmed syntax-cites longest-program rows spans fault
 Refused rows spans (ChildSort i) = Wrong-sort rows i
 Refused rows spans (Datum i) = Wrong-datum rows i
 Refused rows spans (NotCommand i) = No-command rows i

@@ -34,6 +34,7 @@ fn sort_at(rows: &[SyntaxRow], row: usize) -> Option<Sort>
     Some(kind.sort())
 }
 
+// Whether the phrase at a row is of this sort.
 fn is_of(rows: &[SyntaxRow], row: u16, sort: Sort) -> bool
     ensures { λ r. ⌜ r ≡ is-of sort (sort-at (now (rows .entry)) row) ⌝ }
 {
@@ -78,6 +79,7 @@ fn check_row(rows: &[SyntaxRow], i: u16, row: SyntaxRow) -> Result<(), ProgramFa
     Ok(())
 }
 
+// Whether the last row is a command.
 fn check_end(rows: &[SyntaxRow]) -> Result<(), ProgramFault>
     requires some { ⌜ 0 < length (now rows) ⌝ }
     requires short { ⌜ length (now rows) < 65536 ⌝ }
