@@ -1,4 +1,5 @@
 // One evening at the loader: an edge arrives with its cost program and the derivation of its run.
+#![tactic(auto)]
 mod display;
 mod edge;
 

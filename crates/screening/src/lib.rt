@@ -1,5 +1,6 @@
 // Screening: whether the rows of a table cite earlier rows as a tree listed in post-order does, and each row's span.
 // The span of a row is the number of rows of the tree that it is the root of: 1 more than the spans of the rows it cites.
+#![tactic(auto)]
 pub mod fault;
 
 ghost use Rattle.std.specs.Prelude.{◌≡◌, ◌<◌, ◌≤◌, length, take, Some, OnOk, slice_index};
@@ -50,7 +51,7 @@ fn start_of(done: &[u16], cited: Few<u16>) -> Option<usize>
 fn next_span<R: Citing>(row: &R, done: &[u16]) -> Result<u16, ScreenFault>
     requires bounded { Bounded done.now }
     requires short { length done.now < 65535 }
-    ensures { result ≡ next_span (cited row.now) done.now }
+    ensures { result ≡ next_span (R.cited row.now) done.now }
 {
     let row_number = done.len() as u16;
     let Some(cited) = row.citations() else {
@@ -67,8 +68,8 @@ fn write_span<R: Citing>(row: &R, i: usize, spans: &mut [u16]) -> Result<(), Scr
     requires bounded { Bounded (take i spans.old) }
     requires within { i < length spans.old }
     requires short { i < 65535 }
-    ensures answer { result ≡ told (next_span (cited row.now) (take i spans.old)) }
-    ensures memory { spans.new ≡ with_row spans.old i (next_span (cited row.now) (take i spans.old)) }
+    ensures answer { result ≡ told (next_span (R.cited row.now) (take i spans.old)) }
+    ensures memory { spans.new ≡ with_row spans.old i (next_span (R.cited row.now) (take i spans.old)) }
 {
     let found = next_span(row, &spans[..i])?;
     spans[i] = found;
@@ -80,7 +81,7 @@ fn confirm_span<R: Citing>(row: &R, i: usize, spans: &[u16]) -> Result<(), Scree
     requires bounded { Bounded (take i spans.now) }
     requires within { i < length spans.now }
     requires short { i < 65535 }
-    ensures { result ≡ held_span i (slice_index spans.now i) (next_span (cited row.now) (take i spans.now)) }
+    ensures { result ≡ held_span i (slice_index spans.now i) (next_span (R.cited row.now) (take i spans.now)) }
 {
     let span = next_span(row, &spans[..i])?;
     if span != spans[i] {
@@ -91,8 +92,8 @@ fn confirm_span<R: Citing>(row: &R, i: usize, spans: &[u16]) -> Result<(), Scree
 
 // Whether the table has a lawful length and its spans have room.
 fn room_for<R: Citing>(rows: &[R], spans: &[u16]) -> Result<(), ScreenFault>
-    ensures answer { result ≡ room_for limit (length rows.now) (length spans.now) }
-    ensures fits { OnOk result (Fits limit (length rows.now) (length spans.now)) }
+    ensures answer { result ≡ room_for R.limit (length rows.now) (length spans.now) }
+    ensures fits { OnOk result (Fits R.limit (length rows.now) (length spans.now)) }
 {
     if rows.is_empty() || R::longest() < rows.len() {
         return Err(ScreenFault::Size);
@@ -119,9 +120,9 @@ fn whole_table(spans: &[u16]) -> Result<(), ScreenFault>
 // Screens a table and writes the span of each row. A refusal leaves the spans of the rows before it; what lies past the
 // rows is never written.
 pub fn screen<R: Citing>(rows: &[R], spans: &mut [u16]) -> Result<(), ScreenFault>
-    ensures answer { result ≡ (screened cited limit rows.now spans.old).answer }
-    ensures memory { spans.new ≡ (screened cited limit rows.now spans.old).written }
-    ensures law { ScreeningLaw cited limit rows.now spans.old result spans.new }
+    ensures answer { result ≡ (screened R.cited R.limit rows.now spans.old).answer }
+    ensures memory { spans.new ≡ (screened R.cited R.limit rows.now spans.old).written }
+    ensures law { ScreeningLaw R.cited R.limit rows.now spans.old result spans.new }
 {
     room_for(rows, spans)?;
     for i in 0..rows.len() {
@@ -132,10 +133,10 @@ pub fn screen<R: Citing>(rows: &[R], spans: &mut [u16]) -> Result<(), ScreenFaul
 
 // Whether the spans held are those that screening would write for these rows, and it would accept them.
 pub fn confirm<R: Citing>(rows: &[R], spans: &[u16]) -> Result<(), ScreenFault>
-    ensures answer { result ≡ confirmed cited limit rows.now spans.now }
-    ensures fits { OnOk result (Fits limit (length rows.now) (length spans.now)) }
-    ensures law { SpansLaw cited limit rows.now spans.now result }
-    ensures accepted { OnOk result (Accepted cited limit rows.now (take (length rows.now) spans.now)) }
+    ensures answer { result ≡ confirmed R.cited R.limit rows.now spans.now }
+    ensures fits { OnOk result (Fits R.limit (length rows.now) (length spans.now)) }
+    ensures law { SpansLaw R.cited R.limit rows.now spans.now result }
+    ensures accepted { OnOk result (Accepted R.cited R.limit rows.now (take (length rows.now) spans.now)) }
 {
     room_for(rows, spans)?;
     for i in 0..rows.len() {

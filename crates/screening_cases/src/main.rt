@@ -3,6 +3,7 @@
 // The memory is the number of spans to lend to a screening, or `=` and the spans of a table that is not screened first.
 // A row is its five or six numbers in the order of its fields: `-` is a field that is not used, `^` the row before, and
 // `x N` after a row repeats it.
+#![tactic(auto)]
 mod case;
 mod spans;
 

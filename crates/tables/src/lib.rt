@@ -1,4 +1,5 @@
 // Screened tables: programs, whose rows also have to form one, and derivations.
+#![tactic(auto)]
 pub mod derivation;
 pub mod fault;
 mod forming;

@@ -11,11 +11,11 @@ returns-then-is-skip g c = (omega arith, arrived _ _ c.loop-steps.auto.numbers c
 
 pub returns-then-not-branch : goal.returns-then-not-branch
 returns-then-not-branch g c =
-    (omega arith, blocked _ _ c.loop-steps.auto.numbers c.loop-steps.invariant (sym c.if-is-skip.ensures) c.if-not-branch.true c.in-ok-step.ensures)
+    (omega arith, blocked _ _ c.loop-steps.auto.numbers c.loop-steps.invariant (sym c.if-is-skip.ensures) c.if-not-branch.true c.in_ok-step.ensures)
 
 pub loop-steps-preserved : goal.loop-steps-preserved
 loop-steps-preserved g c =
-    onward _ _ c.loop-steps.auto.numbers c.loop-steps.invariant c.if-not-branch.false c.in-ok-step.ensures
+    onward _ _ c.loop-steps.auto.numbers c.loop-steps.invariant c.if-not-branch.false c.in_ok-step.ensures
 
 pub returns-then-is-skip-2 : goal.returns-then-is-skip-2
 returns-then-is-skip-2 g c =

@@ -12,15 +12,15 @@ turn : (rows : List SyntaxRow) (i : ℕ) (row : SyntaxRow) → i < length rows �
 turn rows i row l r e inv =
     ap (λ x. result_and x (formed_from rows (i + 1) (drop (i + 1) rows))) e ∙ sym (at_drop_more (formed_from rows i) rows i row l) ∙ inv
 
-pub returns-in-err-check-row : goal.returns-in-err-check-row
-returns-in-err-check-row c =
-    let p = err_from_is_err_and c.from-residual.result c.from-residual.ensures.1 in
-    rw (p.1, p.2) (turn c.args.rows.now c.loop-i.i _ c.loop-i-test.true _ c.in-err-check-row.ensures c.loop-i.invariant)
+pub returns-in_err-check_row : goal.returns-in_err-check_row
+returns-in_err-check_row c =
+    let p = err_from_is_err_and c.from_residual.result c.from_residual.ensures.1 in
+    rw (p.1, p.2) (turn c.args.rows.now c.loop-i.i _ c.loop-i-test.true _ c.in_err-check_row.ensures c.loop-i.invariant)
 
 pub loop-i-preserved : goal.loop-i-preserved
 loop-i-preserved c =
-    turn c.args.rows.now c.loop-i.i _ c.loop-i-test.true _ c.in-ok-check-row.ensures c.loop-i.invariant
+    turn c.args.rows.now c.loop-i.i _ c.loop-i-test.true _ c.in_ok-check_row.ensures c.loop-i.invariant
 
 pub returns : goal.returns
 returns c =
-    c.check-end.ensures ∙ sym (at_drop_all (formed_from c.args.rows.now c.loop-i.i) c.args.rows.now c.loop-i.i (omega arith)) ∙ c.loop-i.invariant
+    c.check_end.ensures ∙ sym (at_drop_all (formed_from c.args.rows.now c.loop-i.i) c.args.rows.now c.loop-i.i (omega arith)) ∙ c.loop-i.invariant
