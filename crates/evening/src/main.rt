@@ -1,5 +1,6 @@
 // One evening at the loader: an edge arrives with its cost program and the derivation of its run.
 #![tactic(auto)]
+
 mod display;
 mod edge;
 

@@ -7,7 +7,6 @@ use lib.IntN.{ℤ_set, ℤ_discrete}
 use Rattle.imp.specs.Bindings.{Bindings, bind, Arithmetic, Writable}
 use Rattle.imp.specs.Syntax.{Op, Aexp, Bexp, Com}
 use Rattle.imp.specs.Syntax.Op.{plus, times}
-use Rattle.imp.specs.Syntax.Bexp.{less}
 use Rattle.imp.specs.Small.{result_of}
 use Rattle.imp.specs.Large.{EvalA, EvalB, EvalC, steps_c}
 use Rattle.imp.specs.Large.EvalA.{NUM, VAR, SUM, PROD}

@@ -1,6 +1,7 @@
 // IMP, a small imperative language: its small steps, its large steps, and the laws of both. What it means is defined in
 // specs/; the functions here do nothing, and their contracts are the laws.
 #![tactic(auto)]
+
 pub mod rules;
 
 ghost use Rattle.imp.specs.Laws.{Always, DerivationsAreRuns, OneDerivation, OneWay, JoinedRuns, NextDecides};

@@ -1,5 +1,5 @@
 -- A table lists one tree at most.
-use Rattle.std.proofs.Common.{◌≡◌, ℕ, zero, suc, ◌+◌, ◌-◌, ◌<◌, ◌≤◌, List, [], ◌∷◌, ◌++◌, length, take, drop, Option, sym, refl, ap, ◌∙◌, arith}
+use Rattle.std.proofs.Common.{◌≡◌, ℕ, zero, suc, ◌+◌, ◌<◌, ◌≤◌, List, [], ◌∷◌, ◌++◌, length, take, drop, Option, sym, refl, ap, ◌∙◌, arith}
 use Rattle.std.proofs.lemmas.List.{append_assoc, length-append, take_at, drop_at}
 use Rattle.screening.specs.Trees.{Forest, bare, plant, size, post, spans_of, Lists, tree}
 use Rattle.screening.proofs.Forests.{join, size-join, post-join, spans_of-join, length-spans_of, length-post, last_some, size_zero}

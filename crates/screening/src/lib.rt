@@ -1,6 +1,7 @@
 // Screening: whether the rows of a table cite earlier rows as a tree listed in post-order does, and each row's span.
 // The span of a row is the number of rows of the tree that it is the root of: 1 more than the spans of the rows it cites.
 #![tactic(auto)]
+
 pub mod fault;
 
 ghost use Rattle.std.specs.Prelude.{◌≡◌, ◌<◌, ◌≤◌, length, take, Some, OnOk, slice_index};

@@ -4,6 +4,7 @@
 // A row is its five or six numbers in the order of its fields: `-` is a field that is not used, `^` the row before, and
 // `x N` after a row repeats it.
 #![tactic(auto)]
+
 mod case;
 mod spans;
 

@@ -14,7 +14,7 @@ use std::mem;
 
 // The number of a name, if it is bound.
 fn look(numbers: &[Option<i32>], name: u8) -> Option<i32>
-    ensures* { λ r. ⌜ r ≡ bound numbers.now name ⌝ }
+    ensures { result ≡ bound numbers.now name }
 {
     match numbers.get(name as usize) {
         Some(number) => *number,
@@ -24,9 +24,9 @@ fn look(numbers: &[Option<i32>], name: u8) -> Option<i32>
 
 // Binds a name that the list has, and says whether it has it.
 fn bind(numbers: &mut [Option<i32>], name: u8, value: i32) -> bool
-    ensures* writable { λ r. ⌜ r ≡ writable numbers.old name ⌝ }
-    ensures* bound { λ r. ⌜ (r ≡ true → bound numbers.new ≡ binding (bound numbers.old) name value) ⌝ }
-    ensures* same { λ r. ⌜ (r ≡ false → numbers.new ≡ numbers.old) ⌝ }
+    ensures writable { result ≡ writable numbers.old name }
+    ensures bound { result ≡ true → bound numbers.new ≡ binding (bound numbers.old) name value }
+    ensures same { result ≡ false → numbers.new ≡ numbers.old }
 {
     let name = name as usize;
     if name >= numbers.len() {
@@ -38,7 +38,7 @@ fn bind(numbers: &mut [Option<i32>], name: u8, value: i32) -> bool
 
 // The sum or product, if there is one.
 fn apply(operator: Operator, u: i32, v: i32) -> Option<i32>
-    ensures* { λ r. ⌜ r ≡ result_of exact (op_of operator) u v ⌝ }
+    ensures { result ≡ result_of exact (op_of operator) u v }
 {
     match operator {
         Operator::Plus => u.checked_add(v),
@@ -49,7 +49,7 @@ fn apply(operator: Operator, u: i32, v: i32) -> Option<i32>
 impl Expression {
     // The number that this stands for with no step.
     fn stands(&self) -> Option<i32>
-        ensures* { λ r. ⌜ r ≡ stands_for exact (expression_of self.now) ⌝ }
+        ensures { result ≡ stands_for exact (expression_of self.now) }
     {
         match self {
             Expression::Numeral(n) | Expression::Value(n) => Some(*n),
@@ -59,8 +59,8 @@ impl Expression {
 
     // Takes the next step, and says whether there is one.
     fn step(&mut self, numbers: &[Option<i32>]) -> bool
-        ensures* next { λ r. ⌜ next_a exact (bound numbers.now) (expression_of self.old) ≡ moved_to r (expression_of self.new) ⌝ }
-        ensures* same { λ r. ⌜ (r ≡ false → expression_of self.new ≡ expression_of self.old) ⌝ }
+        ensures next { next_a exact (bound numbers.now) (expression_of self.old) ≡ moved_to result (expression_of self.new) }
+        ensures same { result ≡ false → expression_of self.new ≡ expression_of self.old }
     {
         match self {
             Expression::Numeral(_) | Expression::Value(_) => false,
@@ -89,7 +89,7 @@ impl Expression {
 impl Test {
     // The truth value that this is.
     fn truth(&self) -> Option<bool>
-        ensures* { λ r. ⌜ r ≡ truth_of (test_of self.now) ⌝ }
+        ensures { result ≡ truth_of (test_of self.now) }
     {
         match self {
             Test::Truth(t) => Some(*t),
@@ -99,8 +99,8 @@ impl Test {
 
     // Takes the next step, and says whether there is one.
     fn step(&mut self, numbers: &[Option<i32>]) -> bool
-        ensures* next { λ r. ⌜ next_b exact (bound numbers.now) (test_of self.old) ≡ moved_to r (test_of self.new) ⌝ }
-        ensures* same { λ r. ⌜ (r ≡ false → test_of self.new ≡ test_of self.old) ⌝ }
+        ensures next { next_b exact (bound numbers.now) (test_of self.old) ≡ moved_to result (test_of self.new) }
+        ensures same { result ≡ false → test_of self.new ≡ test_of self.old }
     {
         match self {
             Test::Truth(_) => false,
@@ -133,7 +133,7 @@ impl Test {
 
 // Takes out the branch that a test picks.
 fn branch(test: bool, yes: &mut Command, no: &mut Command) -> Command
-    ensures* { λ r. ⌜ command_of r ≡ (if test then command_of yes.old else command_of no.old) ⌝ }
+    ensures { command_of result ≡ (if test then command_of yes.old else command_of no.old) }
 {
     if test {
         mem::replace(yes, Command::Skip)
@@ -144,7 +144,7 @@ fn branch(test: bool, yes: &mut Command, no: &mut Command) -> Command
 
 // body; while test do body
 fn round(heap: Global, test: &Test, body: &Command) -> Result<Command, AllocError>
-    ensures* { λ r. ⌜ IfOk r (λ c. command_of c ≡ seq (command_of body.now) (loop_of (test_of test.now) (command_of body.now))) ⌝ }
+    ensures { IfOk result (λ c. command_of c ≡ seq (command_of body.now) (loop_of (test_of test.now) (command_of body.now))) }
 {
     let again = Command::While(test.copy(heap)?, Box::new(heap, body.copy(heap)?)?);
     let body = Box::new(heap, body.copy(heap)?)?;
@@ -153,7 +153,7 @@ fn round(heap: Global, test: &Test, body: &Command) -> Result<Command, AllocErro
 
 // if test then (body; while test do body) else skip
 fn unrolled(heap: Global, test: &Test, body: &Command) -> Result<Command, AllocError>
-    ensures* { λ r. ⌜ IfOk r (λ c. command_of c ≡ ifte (test_of test.now) (seq (command_of body.now) (loop_of (test_of test.now) (command_of body.now))) skip) ⌝ }
+    ensures { IfOk result (λ c. command_of c ≡ ifte (test_of test.now) (seq (command_of body.now) (loop_of (test_of test.now) (command_of body.now))) skip) }
 {
     let round = Box::new(heap, round(heap, test, body)?)?;
     let skip = Box::new(heap, Command::Skip)?;
@@ -163,7 +163,7 @@ fn unrolled(heap: Global, test: &Test, body: &Command) -> Result<Command, AllocE
 impl Command {
     // Whether nothing is left to do.
     pub fn is_skip(&self) -> bool
-        ensures* { λ r. ⌜ r ≡ ended (command_of self.now) ⌝ }
+        ensures { result ≡ ended (command_of self.now) }
     {
         match self {
             Command::Skip => true,
@@ -177,7 +177,7 @@ impl Command {
     // Takes the next step, and says whether there is one. `numbers` has the number of each name, or none; the names that it
     // has may be written. Only the unrolling of a loop needs memory, and where that fails, nothing is changed.
     pub fn step(&mut self, heap: Global, numbers: &mut [Option<i32>]) -> Result<bool, AllocError>
-        ensures* { λ r. ⌜ Answered (command_of self.old) numbers.old r (command_of self.new) numbers.new ⌝ }
+        ensures { Answered (command_of self.old) numbers.old result (command_of self.new) numbers.new }
     {
         match self {
             Command::Skip => Ok(false),

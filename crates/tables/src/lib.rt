@@ -1,5 +1,6 @@
 // Screened tables: programs, whose rows also have to form one, and derivations.
 #![tactic(auto)]
+
 pub mod derivation;
 pub mod fault;
 mod forming;

@@ -1,5 +1,6 @@
 // Walks programs by their small steps, as far as they go, and prints each configuration.
 #![tactic(auto)]
+
 mod example;
 mod outcome;
 mod show;
