@@ -1,7 +1,7 @@
 # make run    proves, builds and runs the demonstration of the loader
 # make walk   the same of the program that prints a run, small step by small step
-# make test   everything the gate does: what must not build, the stored answers against the rules, and then every proof,
-#             edit, program and test from nothing
+# make test   everything the gate does: every proof, edit, program and test from nothing, then what must not build, and
+#             the stored answers against the rules
 
 .PHONY: run walk test
 
@@ -9,10 +9,7 @@ run: program = evening
 walk: program = walk
 run walk:
 	@mkdir -p target
-	@rt check $(program) > target/run.log 2>&1 || { cat target/run.log; exit 1; }
-	@target/bin/$(program)
+	@cd crates/$(program) && rt run 2> ../../target/run.log || { cat ../../target/run.log; exit 1; }
 
 test:
-	tests/must-not-build/run
-	tests/oracle/screening
-	rt ci
+	@tests/gate

@@ -13,7 +13,7 @@ use Rattle.stepping.specs.Exact.{exact}
 abbrev pub one_round : Com
 one_round = seq (assign 0 (num (pos 3))) (while (less (name 0) (num (pos 4))) (assign 0 (op plus (name 0) (num (pos 5)))))
 
--- wherever foo may be written, `one-round` has a derivation, which counts n steps and leaves foo at 8
+-- wherever foo may be written, `one_round` has a derivation, which counts n steps and leaves foo at 8
 abbrev pub OneRoundCounts : ℕ → Type 0
 OneRoundCounts n = (w : Writable) (σ : Bindings) → w 0 ≡ true → (d : EvalC exact w one_round σ (bind (bind σ 0 (pos 3)) 0 (pos 8))) × (steps_c exact w d ≡ n)
 
