@@ -105,6 +105,8 @@ def respelled(path, names, text):
 
 def main():
     names = spelled()
+    if "is_ok_gives" in (TOP / IS_OK[0]).read_text(encoding="utf-8"):
+        raise SystemExit("respell: it has been run here before, and a second run would garble what the first has made")
     taken, changed = {}, 0
     for old, new in names.items():
         assert taken.setdefault(new, old) == old, (old, taken[new])
