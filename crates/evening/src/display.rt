@@ -1,103 +1,92 @@
 // Screened tables as text.
 use rows::citing::Citing;
-use rows::derivation::Rule;
-use rows::few::Few;
-use rows::syntax::Kind;
-use std::io;
-use tables::derivation::Derivation;
-use tables::program::Program;
+use rows::derivation::{DerivationRow, Rule};
+use rows::syntax::{Kind, SyntaxRow};
+use std::fmt;
+use tables::table::{Screened, TableRow};
 
-fn kind_name(kind: Kind) -> &'static str {
-    match kind {
-        Kind::Numeral => "numeral",
-        Kind::Name => "name",
-        Kind::Sum => "sum",
-        Kind::Product => "product",
-        Kind::True => "true",
-        Kind::False => "false",
-        Kind::Less => "less",
-        Kind::Not => "not",
-        Kind::And => "and",
-        Kind::Skip => "skip",
-        Kind::Assignment => "assignment",
-        Kind::Sequence => "sequence",
-        Kind::If => "if",
-        Kind::While => "while",
+// What the rows of either kind show differently.
+pub(crate) trait Shown: TableRow {
+    // What a table of them is called where it is refused.
+    const PART: &'static str;
+
+    // The heads of a table's columns.
+    const HEAD: &'static str;
+
+    // The columns between a row's number and its citations.
+    fn fmt_code<W: fmt::Write>(&self, f: &mut fmt::Formatter<W>) -> fmt::Result;
+
+    // The number in the column after its citations.
+    fn number(&self) -> i32;
+}
+
+impl Shown for SyntaxRow {
+    const PART: &'static str = "program";
+
+    const HEAD: &'static str = "row  kind        children    datum  span";
+
+    fn fmt_code<W: fmt::Write>(&self, f: &mut fmt::Formatter<W>) -> fmt::Result {
+        match Kind::try_from(self.kind) {
+            Ok(kind) => write!(f, "{kind:<10}"),
+            Err(_) => write!(f, "unknown   "),
+        }
+    }
+
+    fn number(&self) -> i32 {
+        self.datum
     }
 }
 
-fn rule_name(rule: Rule) -> &'static str {
-    match rule {
-        Rule::Num => "NUM",
-        Rule::Var => "VAR",
-        Rule::Sum => "SUM",
-        Rule::Prod => "PROD",
-        Rule::True => "TRUE",
-        Rule::False => "FALSE",
-        Rule::Less => "LESS",
-        Rule::Not => "NOT",
-        Rule::And => "AND",
-        Rule::Skip => "SKIP",
-        Rule::Assgn => "ASSGN",
-        Rule::Seq => "SEQ",
-        Rule::IfT => "IF-T",
-        Rule::IfF => "IF-F",
-        Rule::WhileF => "WHILE-F",
-        Rule::WhileT => "WHILE-T",
+impl Shown for DerivationRow {
+    const PART: &'static str = "table";
+
+    const HEAD: &'static str = "row  rule     syntax row  premises    value  span";
+
+    fn fmt_code<W: fmt::Write>(&self, f: &mut fmt::Formatter<W>) -> fmt::Result {
+        match Rule::try_from(self.rule) {
+            Ok(rule) => write!(f, "{rule:<7}")?,
+            Err(_) => write!(f, "unknown")?,
+        }
+        write!(f, "  {:>10}", self.syntax)
+    }
+
+    fn number(&self) -> i32 {
+        self.value
     }
 }
 
-// The cited rows in a column of ten.
-fn citations(rt: &impl Print, cited: Option<Few<u16>>) -> io::Result<()> {
-    match cited {
-        None | Some(Few::Zero) => print!(rt; "          "),
-        Some(Few::One(a)) => print!(rt; "{a:>2}        "),
-        Some(Few::Two(a, b)) => print!(rt; "{a:>2}  {b:>2}    "),
-        Some(Few::Three(a, b, c)) => print!(rt; "{a:>2}  {b:>2}  {c:>2}"),
+// The rows that a row cites, shown in three columns.
+#[derive(Clone, Copy)]
+struct Cited<'r>(&'r [u16]);
+
+impl fmt::Display for Cited<'_> {
+    fn fmt<W: fmt::Write>(&self, f: &mut fmt::Formatter<W>) -> fmt::Result {
+        let mut rows = self.0.iter();
+        for gap in ["", "  ", "  "] {
+            match rows.next() {
+                Some(row) => write!(f, "{gap}{row:>2}")?,
+                None => write!(f, "{gap}  ")?,
+            }
+        }
+        Ok(())
     }
 }
 
-pub(crate) fn program(rt: &impl Print, program: &Program) -> io::Result<()> {
-    println!(rt; "row  kind        children    datum  span")?;
-    for (i, (row, span)) in program
-        .rows()
-        .iter()
-        .zip(program.spans().iter())
-        .enumerate()
-    {
-        let name = match Kind::of(row.kind) {
-            Some(kind) => kind_name(kind),
-            None => "unknown",
-        };
-        print!(rt; "{i:>3}  {name:<10}  ")?;
-        citations(rt, row.citations())?;
-        let datum = row.datum;
-        println!(rt; "  {datum:>5}  {span:>4}")?;
-    }
-    Ok(())
-}
+// A screened table, shown with a line to a row under a line of heads.
+#[derive(Drop)]
+pub(crate) struct Lines<'t, 'r, 's, R: TableRow>(pub(crate) &'t Screened<'r, 's, R>);
 
-pub(crate) fn derivation(rt: &impl Print, derivation: &Derivation) -> io::Result<()> {
-    println!(rt; "row  rule     syntax row  premises    value  span")?;
-    for (i, (row, span)) in derivation
-        .rows()
-        .iter()
-        .zip(derivation.spans().iter())
-        .enumerate()
-    {
-        let name = match Rule::of(row.rule) {
-            Some(rule) => rule_name(rule),
-            None => "unknown",
-        };
-        let syntax = row.syntax;
-        print!(rt; "{i:>3}  {name:<7}  {syntax:>10}  ")?;
-        citations(rt, row.citations())?;
-        let value = row.value;
-        println!(rt; "  {value:>5}  {span:>4}")?;
+impl<R: Shown> fmt::Display for Lines<'_, '_, '_, R> {
+    fn fmt<W: fmt::Write>(&self, f: &mut fmt::Formatter<W>) -> fmt::Result {
+        let Lines(table) = self;
+        writeln!(f, "{}", R::HEAD)?;
+        for (i, (row, span)) in table.rows().iter().zip(table.spans()).enumerate() {
+            write!(f, "{i:>3}  ")?;
+            row.fmt_code(f)?;
+            let cited = Cited(row.citations().unwrap_or(&[]));
+            let number = row.number();
+            writeln!(f, "  {cited}  {number:>5}  {span:>4}")?;
+        }
+        Ok(())
     }
-    Ok(())
-}
-
-pub(crate) fn refused(rt: &impl Print, part: &str, number: u8, place: u16) -> io::Result<()> {
-    println!(rt; "refused {part} {number} {place}")
 }

@@ -4,53 +4,39 @@
 mod display;
 mod edge;
 
-use rows::derivation::DerivationRow;
-use rows::syntax::SyntaxRow;
+use display::{Lines, Shown};
+use screening::fault::Fault;
 use screening::screen;
 use std::io;
-use tables::derivation::{Derivation, RawDerivation};
-use tables::program::{Program, RawProgram};
+use tables::table::{RawTable, Screened, TableRow};
 
-fn show_program(rt: &impl Print, rows: &[SyntaxRow], spans: &[u16]) -> io::Result<()> {
-    let mut slot = Program::skip();
-    match slot.fill(RawProgram::new(rows, spans)) {
-        Ok(()) => display::program(rt, &slot),
-        Err(fault) => display::refused(rt, "program", fault.number(), fault.place()),
-    }
+// The screened table of these rows, or why there is none.
+fn screened<'r, 's, R: TableRow>(
+    rows: &'r [R],
+    spans: &'s mut [u16],
+) -> Result<Screened<'r, 's, R>, R::Fault> {
+    screen(rows, spans)?;
+    let mut slot = Screened::skip();
+    slot.fill(RawTable::new(rows, spans))?;
+    Ok(slot)
 }
 
-// Screens a program and shows it, or says why it is refused.
-fn load_program(rt: &impl Print, rows: &[SyntaxRow], spans: &mut [u16]) -> io::Result<()> {
-    match screen(rows, spans) {
-        Ok(()) => show_program(rt, rows, spans),
-        Err(fault) => display::refused(rt, "program", fault.number(), fault.place()),
-    }
-}
-
-fn show_derivation(rt: &impl Print, rows: &[DerivationRow], spans: &[u16]) -> io::Result<()> {
-    let mut slot = Derivation::skip();
-    match slot.fill(RawDerivation::new(rows, spans)) {
-        Ok(()) => display::derivation(rt, &slot),
-        Err(fault) => display::refused(rt, "table", fault.number(), fault.place()),
-    }
-}
-
-// Screens a derivation and shows it, or says why it is refused.
-fn load_derivation(rt: &impl Print, rows: &[DerivationRow], spans: &mut [u16]) -> io::Result<()> {
-    match screen(rows, spans) {
-        Ok(()) => show_derivation(rt, rows, spans),
-        Err(fault) => display::refused(rt, "table", fault.number(), fault.place()),
+// Screens a table and shows it, or says why it is refused.
+fn load<R: Shown>(rt: &impl Print, rows: &[R], spans: &mut [u16]) -> io::Result<()> {
+    match screened(rows, spans) {
+        Ok(table) => print!(rt; "{}", Lines(&table)),
+        Err(fault) => println!(rt; "refused {} {}", R::PART, fault.refusal()),
     }
 }
 
 fn main(rt: HostRuntime) -> io::Result<()> {
     let mut spans = [0; 12];
     println!(rt; "The cost of an edge: while x < 2 do x := 1 + 1")?;
-    load_program(&rt, &edge::program(), &mut spans)?;
+    load(&rt, &edge::program(), &mut spans)?;
     println!(rt; "")?;
     println!(rt; "Its derivation from x = 1")?;
-    load_derivation(&rt, &edge::derivation(), &mut spans)?;
+    load(&rt, &edge::derivation(), &mut spans)?;
     println!(rt; "")?;
     println!(rt; "The same, its last row cited as its own third premise")?;
-    load_derivation(&rt, &edge::derivation_that_cites_itself(), &mut spans)
+    load(&rt, &edge::derivation_that_cites_itself(), &mut spans)
 }

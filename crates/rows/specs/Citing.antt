@@ -3,10 +3,9 @@
 use Rattle.std.specs.Prelude.{ℕ, List, Some, None, Option}
 use Rattle.rows.specs.declared.syntax.Kind.{Kind}
 use Rattle.rows.specs.declared.derivation.Rule.{Rule}
-use Rattle.rows.specs.declared.fields.Fields.{Fields}
 use Rattle.rows.specs.declared.syntax.SyntaxRow.{SyntaxRow}
 use Rattle.rows.specs.declared.derivation.DerivationRow.{DerivationRow}
-use Rattle.rows.specs.Fields.{in_order, used}
+use Rattle.rows.specs.Fields.{used}
 use Rattle.rows.specs.Syntax.{kind_of, children_of}
 use Rattle.rows.specs.Derivation.{rule_of, premises_of}
 
@@ -18,14 +17,14 @@ abbrev pub longest_derivation : ℕ
 longest_derivation = 2048
 
 -- the citations of a row of a kind, if the kind is known
-abbrev pub children_cited : Option Kind → Fields → Option (List ℕ)
+abbrev pub children_cited : Option Kind → List ℕ → Option (List ℕ)
 children_cited None fields = None
-children_cited (Some kind) fields = used (children_of kind) (in_order fields)
+children_cited (Some kind) fields = used (children_of kind) fields
 
 -- the citations of a row of a rule, if the rule is known
-abbrev pub premises_cited : Option Rule → Fields → Option (List ℕ)
+abbrev pub premises_cited : Option Rule → List ℕ → Option (List ℕ)
 premises_cited None fields = None
-premises_cited (Some rule) fields = used (premises_of rule) (in_order fields)
+premises_cited (Some rule) fields = used (premises_of rule) fields
 
 -- the rows that a syntax row cites: its children
 abbrev pub syntax_cites : SyntaxRow → Option (List ℕ)

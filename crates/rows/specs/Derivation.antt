@@ -1,5 +1,5 @@
 -- The rules of a derivation, by their usual names.
-use Rattle.std.specs.Prelude.{ℕ, cond, List, [], ◌∷◌, Some, None, Option, ◌==◌}
+use Rattle.std.specs.Prelude.{ℕ, cond, List, [], ◌∷◌, Some, None, Option, ◌==◌, codes}
 use Rattle.rows.specs.declared.derivation.Premise.{Premise}
 use Rattle.rows.specs.declared.derivation.Premise.TheVariants.{First, Second, Third, Itself}
 use Rattle.rows.specs.declared.derivation.Rule.{Rule}
@@ -44,3 +44,22 @@ premises_of IfT = First ∷ Second ∷ []
 premises_of IfF = First ∷ Third ∷ []
 premises_of WhileF = First ∷ []
 premises_of WhileT = First ∷ Second ∷ Itself ∷ []
+
+-- the usual name of a rule
+abbrev pub rule_name : Rule → List ℕ
+rule_name Num = codes "NUM"
+rule_name Var = codes "VAR"
+rule_name Sum = codes "SUM"
+rule_name Prod = codes "PROD"
+rule_name True = codes "TRUE"
+rule_name False = codes "FALSE"
+rule_name Less = codes "LESS"
+rule_name Not = codes "NOT"
+rule_name And = codes "AND"
+rule_name Skip = codes "SKIP"
+rule_name Assgn = codes "ASSGN"
+rule_name Seq = codes "SEQ"
+rule_name IfT = codes "IF-T"
+rule_name IfF = codes "IF-F"
+rule_name WhileF = codes "WHILE-F"
+rule_name WhileT = codes "WHILE-T"

@@ -1,15 +1,10 @@
 -- The three fields of a row that may cite earlier rows.
-use Rattle.std.specs.Prelude.{ℕ, Bool, true, cond, ◌&&◌, List, [], ◌∷◌, ◌++◌, length, drop, Some, None, Option, ◌==◌}
-use Rattle.rows.specs.declared.fields.Fields.{Fields}
-
--- the three fields, first to last
-abbrev pub in_order : Fields → List ℕ
-in_order f = f.first ∷ f.second ∷ f.third ∷ []
+use Rattle.std.specs.Prelude.{ℕ, Bool, cond, List, [], ◌∷◌, ◌++◌, take, Some, None, Option, ◌==◌}
+use Rattle.std.specs.List.{list_all}
 
 -- an unused field holds 65535
 abbrev pub unused : List ℕ → Bool
-unused [] = true
-unused (f ∷ fs) = f == 65535 && unused fs
+unused fs = list_all (λ f. f == 65535) fs
 
 -- one more citation before those that follow, if these are any
 abbrev pub after : ℕ → Option (List ℕ) → Option (List ℕ)
@@ -22,6 +17,6 @@ used [] fs = cond (unused fs) (Some []) None
 used (_ ∷ parts) [] = None
 used (_ ∷ parts) (f ∷ fs) = after f (used parts fs)
 
--- three fields that begin with these
+-- three fields that begin with these rows, or with the first three of them
 abbrev pub padded : List ℕ → List ℕ
-padded fs = fs ++ drop (length fs) (65535 ∷ 65535 ∷ 65535 ∷ [])
+padded rows = take 3 (rows ++ 65535 ∷ 65535 ∷ 65535 ∷ [])

@@ -1,4 +1,4 @@
-pub mod Few
+pub mod Code
 pub mod Fields
 pub mod Syntax
 pub mod Derivation

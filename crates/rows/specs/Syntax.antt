@@ -1,6 +1,6 @@
 -- The kinds of syntax rows. A numeral, a name, a sum and a product are expressions; true, false, less, not and and
 -- are tests; skip, an assignment, a sequence, an if and a while are commands.
-use Rattle.std.specs.Prelude.{ℕ, Bool, true, false, cond, List, [], ◌∷◌, ℤ, pos, negsuc, Some, None, Option, ◌==◌, nat_lt}
+use Rattle.std.specs.Prelude.{ℕ, Bool, true, false, cond, List, [], ◌∷◌, ℤ, pos, negsuc, Some, None, Option, ◌==◌, nat_lt, codes}
 use Rattle.rows.specs.declared.syntax.Sort.{Sort}
 use Rattle.rows.specs.declared.syntax.Sort.TheVariants.{Expression, Test, Command}
 use Rattle.rows.specs.declared.syntax.Kind.{Kind}
@@ -85,3 +85,20 @@ admitted Assignment datum = is_name datum
 admitted Sequence datum = is_zero datum
 admitted If datum = is_zero datum
 admitted While datum = is_zero datum
+
+-- the word for the phrases of a kind
+abbrev pub kind_name : Kind → List ℕ
+kind_name Numeral = codes "numeral"
+kind_name Name = codes "name"
+kind_name Sum = codes "sum"
+kind_name Product = codes "product"
+kind_name True = codes "true"
+kind_name False = codes "false"
+kind_name Less = codes "less"
+kind_name Not = codes "not"
+kind_name And = codes "and"
+kind_name Skip = codes "skip"
+kind_name Assignment = codes "assignment"
+kind_name Sequence = codes "sequence"
+kind_name If = codes "if"
+kind_name While = codes "while"

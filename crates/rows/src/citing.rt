@@ -1,11 +1,11 @@
 // Kinds of rows that cite earlier rows of their table, so that such a table can be screened.
 ghost use Rattle.std.specs.Prelude.{◌≡◌, ℕ, ◌<◌, List, Option};
-ghost use Rattle.rows.specs.Few.{listing};
+ghost use Rattle.std.specs.Option.{option_copied};
 ghost use Rattle.rows.specs.Citing.{longest_program, longest_derivation, syntax_cites, derivation_cites};
 ghost use Rattle.std.proofs.Common.{rules};
 
 use crate::derivation::{DerivationRow, Rule};
-use crate::few::Few;
+use crate::fields::cited;
 use crate::syntax::{Kind, SyntaxRow};
 
 // The most rows that a program and a derivation have.
@@ -23,13 +23,14 @@ pub trait Citing {
     fn longest() -> usize
         ensures { result ≡ limit };
 
-    fn citations(&self) -> Option<Few<u16>>
-        ensures { listing result ≡ cited self.now };
+    fn citations(&self) -> Option<&[u16]>
+        ensures { option_copied result ≡ cited self.now };
 
     // so that row numbers and spans fit 16 bits, and 65,535 is no row
     ghost limited: { limit < 65535 };
 }
 
+// The two impls stay apart: a trait to share two lines of `citations` would be longer than both.
 impl Citing for SyntaxRow {
     ghost limit = { longest_program };
 
@@ -41,9 +42,9 @@ impl Citing for SyntaxRow {
         LONGEST_PROGRAM
     }
 
-    fn citations(&self) -> Option<Few<u16>> {
-        let kind = Kind::of(self.kind)?;
-        self.children.cited(kind.children())
+    fn citations(&self) -> Option<&[u16]> {
+        let kind = Kind::try_from(self.kind).ok()?;
+        cited(&self.children, kind.children())
     }
 }
 
@@ -58,8 +59,8 @@ impl Citing for DerivationRow {
         LONGEST_DERIVATION
     }
 
-    fn citations(&self) -> Option<Few<u16>> {
-        let rule = Rule::of(self.rule)?;
-        self.premises.cited(rule.premises())
+    fn citations(&self) -> Option<&[u16]> {
+        let rule = Rule::try_from(self.rule).ok()?;
+        cited(&self.premises, rule.premises())
     }
 }

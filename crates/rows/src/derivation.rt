@@ -1,15 +1,18 @@
 // Derivation rows and their rules: which code each rule has, and what it has for premises.
 ghost use Rattle.std.specs.Prelude.{◌≡◌, Some};
-ghost use Rattle.rows.specs.Few.{listed};
-ghost use Rattle.rows.specs.Fields.{in_order, padded};
-ghost use Rattle.rows.specs.Derivation.{rule_of, premises_of};
+ghost use Rattle.std.specs.Fmt.{padded as spaced};
+ghost use Rattle.rows.specs.Code.{Decodes};
+ghost use Rattle.rows.specs.Fields.{padded};
+ghost use Rattle.rows.specs.Derivation.{rule_of, premises_of, rule_name};
 
-use crate::few::Few;
-use crate::fields::Fields;
+use crate::code::UnknownCode;
+use crate::fields::{Fields, citing};
+use std::fmt;
 
 // A row of a derivation, as it comes, with any byte for its rule: a rule used at a syntax row, its premises by their rows, and the value that it gives.
-#[derive(Clone, Copy)]
+#[derive(Clone, Copy, Debug, PartialEq, Eq)]
 pub struct DerivationRow {
+    // a byte and no `Rule`: any byte may come, and a row is written back as it was read
     pub rule: u8,
     pub syntax: u16,
     pub premises: Fields,
@@ -18,23 +21,23 @@ pub struct DerivationRow {
 
 impl DerivationRow {
     // The row of this rule at a syntax row, with the premises at these rows.
-    pub fn new(rule: Rule, syntax: u16, premises: Few<u16>, value: i32) -> DerivationRow
+    pub fn new(rule: Rule, syntax: u16, premises: &[u16], value: i32) -> DerivationRow
         ensures rule { rule_of result.rule ≡ Some rule }
         ensures syntax { result.syntax ≡ syntax }
-        ensures premises { in_order result.premises ≡ padded (listed premises) }
+        ensures premises { result.premises ≡ padded premises.now }
         ensures value { result.value ≡ value }
     {
         DerivationRow {
-            rule: rule.code(),
+            rule: rule.into(),
             syntax,
-            premises: Fields::citing(premises),
+            premises: citing(premises),
             value,
         }
     }
 }
 
 // What a premise derives: a child of the phrase that the rule is about, or that phrase again.
-#[derive(Clone, Copy)]
+#[derive(Clone, Copy, Debug, PartialEq, Eq)]
 pub enum Premise {
     First,
     Second,
@@ -43,7 +46,7 @@ pub enum Premise {
 }
 
 // The rules, each with the code that stands for it.
-#[derive(Clone, Copy)]
+#[derive(Clone, Copy, Debug, PartialEq, Eq)]
 pub enum Rule {
     Num = 1,
     Var = 2,
@@ -63,52 +66,92 @@ pub enum Rule {
     WhileT = 16,
 }
 
-impl Rule {
-    // The rule that a code stands for, if it stands for one.
-    pub fn of(code: u8) -> Option<Rule>
-        ensures { result ≡ rule_of code }
-    {
+// The rule that a code stands for, if it stands for one.
+impl TryFrom<u8> for Rule {
+    type Error = UnknownCode;
+
+    ghost try_from_gives = { Decodes rule_of };
+
+    fn try_from(code: u8) -> Result<Rule, UnknownCode> {
         match code {
-            1 => Some(Rule::Num),
-            2 => Some(Rule::Var),
-            3 => Some(Rule::Sum),
-            4 => Some(Rule::Prod),
-            5 => Some(Rule::True),
-            6 => Some(Rule::False),
-            7 => Some(Rule::Less),
-            8 => Some(Rule::Not),
-            9 => Some(Rule::And),
-            10 => Some(Rule::Skip),
-            11 => Some(Rule::Assgn),
-            12 => Some(Rule::Seq),
-            13 => Some(Rule::IfT),
-            14 => Some(Rule::IfF),
-            15 => Some(Rule::WhileF),
-            16 => Some(Rule::WhileT),
-            _ => None,
+            1 => Ok(Rule::Num),
+            2 => Ok(Rule::Var),
+            3 => Ok(Rule::Sum),
+            4 => Ok(Rule::Prod),
+            5 => Ok(Rule::True),
+            6 => Ok(Rule::False),
+            7 => Ok(Rule::Less),
+            8 => Ok(Rule::Not),
+            9 => Ok(Rule::And),
+            10 => Ok(Rule::Skip),
+            11 => Ok(Rule::Assgn),
+            12 => Ok(Rule::Seq),
+            13 => Ok(Rule::IfT),
+            14 => Ok(Rule::IfF),
+            15 => Ok(Rule::WhileF),
+            16 => Ok(Rule::WhileT),
+            _ => Err(UnknownCode(code)),
         }
     }
+}
 
-    // The code that stands for this rule.
-    pub fn code(self) -> u8
-        ensures { rule_of result ≡ Some self }
+// The code that stands for a rule.
+impl From<Rule> for u8 {
+    ghost from_gives = { λ rule code. rule_of code ≡ Some rule };
+
+    fn from(rule: Rule) -> u8 {
+        rule as u8
+    }
+}
+
+impl Rule {
+    // The usual name of this rule.
+    pub fn name(self) -> &'static str
+        ensures { result.now ≡ rule_name self }
     {
-        self as u8
+        match self {
+            Rule::Num => "NUM",
+            Rule::Var => "VAR",
+            Rule::Sum => "SUM",
+            Rule::Prod => "PROD",
+            Rule::True => "TRUE",
+            Rule::False => "FALSE",
+            Rule::Less => "LESS",
+            Rule::Not => "NOT",
+            Rule::And => "AND",
+            Rule::Skip => "SKIP",
+            Rule::Assgn => "ASSGN",
+            Rule::Seq => "SEQ",
+            Rule::IfT => "IF-T",
+            Rule::IfF => "IF-F",
+            Rule::WhileF => "WHILE-F",
+            Rule::WhileT => "WHILE-T",
+        }
     }
 
     // The premises, first to last.
-    pub fn premises(self) -> Few<Premise>
-        ensures { listed result ≡ premises_of self }
+    pub fn premises(self) -> &'static [Premise]
+        ensures { result.now ≡ premises_of self }
     {
         match self {
-            Rule::Num | Rule::Var | Rule::True | Rule::False | Rule::Skip => Few::Zero,
-            Rule::Not | Rule::Assgn | Rule::WhileF => Few::One(Premise::First),
-            Rule::Sum | Rule::Prod | Rule::Less | Rule::And | Rule::Seq | Rule::IfT => Few::Two(
+            Rule::Num | Rule::Var | Rule::True | Rule::False | Rule::Skip => &[],
+            Rule::Not | Rule::Assgn | Rule::WhileF => &[Premise::First],
+            Rule::Sum | Rule::Prod | Rule::Less | Rule::And | Rule::Seq | Rule::IfT => &[
                 Premise::First,
                 Premise::Second,
-            ),
-            Rule::IfF => Few::Two(Premise::First, Premise::Third),
-            Rule::WhileT => Few::Three(Premise::First, Premise::Second, Premise::Itself),
+            ],
+            Rule::IfF => &[Premise::First, Premise::Third],
+            Rule::WhileT => &[Premise::First, Premise::Second, Premise::Itself],
         }
+    }
+}
+
+impl fmt::Display for Rule {
+    ghost output = { λ rule. Some (rule_name rule) };
+
+    ghost styled_output = { λ rule spec. Some (spaced spec (rule_name rule)) };
+
+    fn fmt<W: fmt::Write>(&self, f: &mut fmt::Formatter<W>) -> fmt::Result {
+        f.pad(self.name())
     }
 }

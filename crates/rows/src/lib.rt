@@ -2,7 +2,7 @@
 #![tactic(auto)]
 
 pub mod citing;
+pub mod code;
 pub mod derivation;
-pub mod few;
 pub mod fields;
 pub mod syntax;

@@ -1,4 +1,5 @@
 pub mod Scans
+pub mod Laid
 pub mod Forests
 pub mod Citing
 pub mod Growth

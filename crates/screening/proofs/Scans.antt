@@ -48,6 +48,18 @@ pub if_some_is : (o : Option ℕ) (t s : ℕ) → if_some o t ≡ Some s → (m 
 if_some_is None t s e = none_of e
 if_some_is (Some m) t s e = (m, refl, cc)
 
+-- the span of a row whose trees begin at `start`
+pub start_le : (done ps : List ℕ) (start : ℕ) → Bounded done → Some start ≡ laid done (length done) ps → start ≤ length done
+start_le done ps start b e =
+    let h = laid-total done (length done) b (omega arith) ps start (sym e) in
+    omega arith
+
+pub span_at : (done ps : List ℕ) (start : ℕ) → Bounded done → Some start ≡ laid done (length done) ps → Ok (length done - start + 1) ≡ next_span (Some ps) done
+span_at done ps start b e =
+    let h = laid-total done (length done) b (omega arith) ps start (sym e) in
+    let n : length done - start + 1 ≡ 1 + total done ps = omega arith in
+    rw (n, ← e) refl
+
 -- what a row that has a span cites
 pub record Placed (c : Option (List ℕ)) (done : List ℕ) (s : ℕ) : Type 0 where
   pub cites : List ℕ

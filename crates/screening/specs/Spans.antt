@@ -1,5 +1,5 @@
 -- Tables whose spans are held already, and tables that are accepted.
-use Rattle.std.specs.Prelude.{◌≡◌, ℕ, ◌<◌, ◌≤◌, true, cond, ◌⊎◌, List, [], ◌∷◌, ◌++◌, length, take, is_ok, Ok, Err, Option, Result, ◌==◌, slice_index, slice_index_or}
+use Rattle.std.specs.Prelude.{◌≡◌, ℕ, ◌<◌, ◌≤◌, true, cond, ◌⊎◌, List, [], ◌∷◌, ◌++◌, length, take, is_ok, Ok, Err, Option, Result, ◌==◌, slice_index}
 use Rattle.std.specs.Result.{result_and}
 use Rattle.screening.specs.declared.fault.ScreenFault.{ScreenFault}
 use Rattle.screening.specs.declared.fault.ScreenFault.TheVariants.{Citation}
@@ -39,7 +39,7 @@ pub record TableLaw {R : Type 0} (cited : R → Option (List ℕ)) (limit : ℕ)
 pub record DiffersAt {R : Type 0} (cited : R → Option (List ℕ)) (limit : ℕ) (rows : List R) (held : List ℕ) (i : ℕ) : Type 0 where
   pub within : i < length rows
   pub before : take i held ≡ take i (screened cited limit rows held).written
-  pub here : slice_index_or held i 0 ≡ slice_index (screened cited limit rows held).written i → ⊥
+  pub here : slice_index held i ≡ slice_index (screened cited limit rows held).written i → ⊥
 
 -- what a refusal says: it is that of a screening, or it is at the first row whose span is held as another
 abbrev pub Unconfirmed : {R : Type 0} → (R → Option (List ℕ)) → ℕ → List R → List ℕ → ScreenFault → Type 0

@@ -4,64 +4,73 @@
 
 pub mod fault;
 
-ghost use Rattle.std.specs.Prelude.{◌≡◌, ◌<◌, ◌≤◌, length, take, Some, OnOk, slice_index};
-ghost use Rattle.rows.specs.Few.{listed};
+ghost use Rattle.std.specs.Prelude.{◌≡◌, ◌<◌, ◌≤◌, length, take, Some, OnOk};
 ghost use Rattle.screening.specs.Screening.{Bounded, before, laid, next_span, told, with_row, room_for, Fits, whole, screened};
 ghost use Rattle.screening.specs.Trees.{ScreeningLaw};
 ghost use Rattle.screening.specs.Spans.{held_span, confirmed, Accepted, SpansLaw};
 
 use crate::fault::ScreenFault;
 use rows::citing::Citing;
-use rows::few::Few;
 
-// Where the tree of row `cited` begins, if that row comes right before row `next`.
-fn start_before(done: &[u16], cited: u16, next: usize) -> Option<usize>
-    requires bounded { Bounded done.now }
-    requires within { next ≤ length done.now }
-    ensures { result ≡ before done.now cited (Some next) }
-{
-    let root = cited as usize;
-    if root + 1 != next {
-        return None;
-    }
-    Some(next - done[root] as usize)
+// The spans of the rows so far: no span passes its row, and their number fits 16 bits.
+#[derive(Clone, Copy)]
+struct Done<'s> {
+    spans: &'s [u16],
+    ghost bounded: { Bounded spans.now },
+    ghost short: { length spans.now < 65535 },
 }
 
-// Where the trees of the cited rows begin, if they lie side by side and end with `done`.
-fn start_of(done: &[u16], cited: Few<u16>) -> Option<usize>
-    requires { Bounded done.now }
-    ensures { result ≡ laid done.now (length done.now) (listed cited) }
-{
-    let end = done.len();
-    match cited {
-        Few::Zero => Some(end),
-        Few::One(a) => start_before(done, a, end),
-        Few::Two(a, b) => {
-            let second = start_before(done, b, end)?;
-            start_before(done, a, second)
+impl Done<'_> {
+    // Where the tree of row `cited` begins, if that row comes right before row `next`.
+    fn start_before(&self, cited: u16, next: usize) -> Option<usize>
+        requires { next ≤ length self.now.spans.now }
+        ensures { result ≡ before self.now.spans.now cited (Some next) }
+    {
+        let root = cited as usize;
+        if root + 1 != next {
+            return None;
         }
-        Few::Three(a, b, c) => {
-            let third = start_before(done, c, end)?;
-            let second = start_before(done, b, third)?;
-            start_before(done, a, second)
-        }
+        Some(next - self.spans[root] as usize)
     }
-}
 
-// The span of the row after `done`, or why it has none.
-fn next_span<R: Citing>(row: &R, done: &[u16]) -> Result<u16, ScreenFault>
-    requires bounded { Bounded done.now }
-    requires short { length done.now < 65535 }
-    ensures { result ≡ next_span (R.cited row.now) done.now }
-{
-    let row_number = done.len() as u16;
-    let Some(cited) = row.citations() else {
-        return Err(ScreenFault::Malformed { row: row_number });
-    };
-    let Some(start) = start_of(done, cited) else {
-        return Err(ScreenFault::Citation { row: row_number });
-    };
-    Ok((done.len() - start + 1) as u16)
+    // Where the trees of the cited rows begin, if they lie side by side and end with these rows.
+    #[tactic(auto, using(crate::proofs::Laid::under_laid, crate::proofs::Laid::under_push, crate::proofs::Laid::under_none, crate::proofs::Laid::before_le))]
+    fn start_of(&self, cited: &[u16]) -> Option<usize>
+        ensures { result ≡ laid self.now.spans.now (length self.now.spans.now) cited.now }
+    {
+        let mut next = self.spans.len();
+        for row in cited.iter().rev() {
+            next = self.start_before(*row, next)?;
+        }
+        Some(next)
+    }
+
+    // The span of the row after these, or why it has none.
+    #[tactic(auto, using(crate::proofs::Scans::start_le, crate::proofs::Scans::span_at))]
+    fn next_span<R: Citing>(&self, row: &R) -> Result<u16, ScreenFault>
+        ensures { result ≡ next_span (R.cited row.now) self.now.spans.now }
+    {
+        let number = self.spans.len() as u16;
+        let cited = row
+            .citations()
+            .ok_or(ScreenFault::Malformed { row: number })?;
+        let start = self
+            .start_of(cited)
+            .ok_or(ScreenFault::Citation { row: number })?;
+        Ok((self.spans.len() - start + 1) as u16)
+    }
+
+    // Whether the span that is held for the row after these is the one that it has.
+    fn confirm_next<R: Citing>(&self, row: &R, held: u16) -> Result<(), ScreenFault>
+        ensures { result ≡ held_span (length self.now.spans.now) held (next_span (R.cited row.now) self.now.spans.now) }
+    {
+        if self.next_span(row)? != held {
+            return Err(ScreenFault::Citation {
+                row: self.spans.len() as u16,
+            });
+        }
+        Ok(())
+    }
 }
 
 // Writes the span of row i, if it has one.
@@ -72,22 +81,9 @@ fn write_span<R: Citing>(row: &R, i: usize, spans: &mut [u16]) -> Result<(), Scr
     ensures answer { result ≡ told (next_span (R.cited row.now) (take i spans.old)) }
     ensures memory { spans.new ≡ with_row spans.old i (next_span (R.cited row.now) (take i spans.old)) }
 {
-    let found = next_span(row, &spans[..i])?;
+    let done = Done { spans: &spans[..i] };
+    let found = done.next_span(row)?;
     spans[i] = found;
-    Ok(())
-}
-
-// Whether the span held for row i is the one that it has.
-fn confirm_span<R: Citing>(row: &R, i: usize, spans: &[u16]) -> Result<(), ScreenFault>
-    requires bounded { Bounded (take i spans.now) }
-    requires within { i < length spans.now }
-    requires short { i < 65535 }
-    ensures { result ≡ held_span i (slice_index spans.now i) (next_span (R.cited row.now) (take i spans.now)) }
-{
-    let span = next_span(row, &spans[..i])?;
-    if span != spans[i] {
-        return Err(ScreenFault::Citation { row: i as u16 });
-    }
     Ok(())
 }
 
@@ -120,19 +116,23 @@ fn whole_table(spans: &[u16]) -> Result<(), ScreenFault>
 
 // Screens a table and writes the span of each row. A refusal leaves the spans of the rows before it; what lies past the
 // rows is never written.
+// Its loop and that of `confirm` stay apart: one writes the spans that the other reads, so a shared loop would be handed a
+// closure for each.
+#[tactic(auto, using(crate::proofs::Laws::law_of))]
 pub fn screen<R: Citing>(rows: &[R], spans: &mut [u16]) -> Result<(), ScreenFault>
     ensures answer { result ≡ (screened R.cited R.limit rows.now spans.old).answer }
     ensures memory { spans.new ≡ (screened R.cited R.limit rows.now spans.old).written }
     ensures law { ScreeningLaw R.cited R.limit rows.now spans.old result spans.new }
 {
     room_for(rows, spans)?;
-    for i in 0..rows.len() {
-        write_span(&rows[i], i, spans)?;
+    for (i, row) in rows.iter().enumerate() {
+        write_span(row, i, spans)?;
     }
     whole_table(&spans[..rows.len()])
 }
 
 // Whether the spans held are those that screening would write for these rows, and it would accept them.
+#[tactic(auto, using(crate::proofs::Held::spans_law))]
 pub fn confirm<R: Citing>(rows: &[R], spans: &[u16]) -> Result<(), ScreenFault>
     ensures answer { result ≡ confirmed R.cited R.limit rows.now spans.now }
     ensures fits { OnOk result (Fits R.limit (length rows.now) (length spans.now)) }
@@ -140,8 +140,9 @@ pub fn confirm<R: Citing>(rows: &[R], spans: &[u16]) -> Result<(), ScreenFault>
     ensures accepted { OnOk result (Accepted R.cited R.limit rows.now (take (length rows.now) spans.now)) }
 {
     room_for(rows, spans)?;
-    for i in 0..rows.len() {
-        confirm_span(&rows[i], i, spans)?;
+    for (i, row) in rows.iter().enumerate() {
+        let done = Done { spans: &spans[..i] };
+        done.confirm_next(row, spans[i])?;
     }
     whole_table(&spans[..rows.len()])
 }

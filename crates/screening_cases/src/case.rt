@@ -1,47 +1,59 @@
 // Rows that a case of either kind is made of: how one is read, and the place that a table of them fills.
 use anyhow::{Context, anyhow};
-use rows::citing::Citing;
 use rows::derivation::DerivationRow;
-use rows::fields::{Fields, UNUSED};
+use rows::fields::{Fields, NO_CITATIONS, UNUSED};
 use rows::syntax::SyntaxRow;
+use screening::fault::{Fault, Refusal};
 use screening::screen;
 use std::alloc::Global;
-use std::fmt;
-use tables::derivation::{Derivation, RawDerivation};
-use tables::program::{Program, RawProgram};
-
-#[derive(Clone, Copy)]
-pub(crate) enum Answer {
-    Accepted,
-    Refused { number: u8, place: u16 },
-}
-
-impl fmt::Display for Answer {
-    fn fmt<W: fmt::Write>(&self, f: &mut fmt::Formatter<W>) -> fmt::Result {
-        match *self {
-            Answer::Accepted => write!(f, "accepted"),
-            Answer::Refused { number, place } => write!(f, "refused {number} {place}"),
-        }
-    }
-}
+use std::str::{FromStr, SplitWhitespace};
+use tables::table::{RawTable, Screened, TableRow};
 
 // A kind of row that cases are made of.
-pub(crate) trait CaseRow: Citing + Copy {
-    // The row that the text says, as row number `at` of its table.
-    fn read(text: &str, at: u16) -> anyhow::Result<Self>;
-
-    // What a slot answers when it is offered these rows with these spans, and how many rows it holds afterwards.
-    fn fill(rows: &[Self], spans: &[u16]) -> (Answer, usize);
+pub(crate) trait CaseRow: TableRow {
+    // The row that the words say, as row number `at` of its table.
+    fn read(words: &mut SplitWhitespace, at: u16) -> anyhow::Result<Self>;
 }
 
-fn no_more(word: Option<&str>) -> anyhow::Result<()> {
-    match word {
-        None => Ok(()),
-        Some(_) => Err(anyhow!("a word too many")),
+impl CaseRow for SyntaxRow {
+    fn read(words: &mut SplitWhitespace, at: u16) -> anyhow::Result<SyntaxRow> {
+        Ok(SyntaxRow {
+            kind: number(words, "no kind")?,
+            children: fields(words, at)?,
+            datum: number(words, "no datum")?,
+        })
     }
 }
 
-fn field(word: Option<&str>, at: u16) -> anyhow::Result<u16> {
+impl CaseRow for DerivationRow {
+    fn read(words: &mut SplitWhitespace, at: u16) -> anyhow::Result<DerivationRow> {
+        Ok(DerivationRow {
+            rule: number(words, "no rule")?,
+            syntax: number(words, "no syntax row")?,
+            premises: fields(words, at)?,
+            value: number(words, "no value")?,
+        })
+    }
+}
+
+// The number that is the next word.
+fn number<N: FromStr>(words: &mut SplitWhitespace, missing: &'static str) -> anyhow::Result<N>
+where
+    anyhow::Error: From<N::Err>,
+{
+    Ok(words.next().context(missing)?.parse::<N>()?)
+}
+
+// The three fields that are the next words.
+fn fields(words: &mut SplitWhitespace, at: u16) -> anyhow::Result<Fields> {
+    let mut fields = NO_CITATIONS;
+    for field in &mut fields {
+        *field = read_field(words.next(), at)?;
+    }
+    Ok(fields)
+}
+
+fn read_field(word: Option<&str>, at: u16) -> anyhow::Result<u16> {
     match word.context("a field is missing")? {
         "-" => Ok(UNUSED),
         "^" => Ok(at.checked_sub(1).context("no row before")?),
@@ -49,81 +61,21 @@ fn field(word: Option<&str>, at: u16) -> anyhow::Result<u16> {
     }
 }
 
-impl CaseRow for SyntaxRow {
-    fn read(text: &str, at: u16) -> anyhow::Result<SyntaxRow> {
-        let mut words = text.split_whitespace();
-        let kind = words.next().context("no kind")?.parse::<u8>()?;
-        let first = field(words.next(), at)?;
-        let second = field(words.next(), at)?;
-        let third = field(words.next(), at)?;
-        let datum = words.next().context("no datum")?.parse::<i32>()?;
-        no_more(words.next())?;
-        let children = Fields {
-            first,
-            second,
-            third,
-        };
-        Ok(SyntaxRow {
-            kind,
-            children,
-            datum,
-        })
-    }
-
-    fn fill(rows: &[SyntaxRow], spans: &[u16]) -> (Answer, usize) {
-        let mut slot = Program::skip();
-        let answer = match slot.fill(RawProgram::new(rows, spans)) {
-            Ok(()) => Answer::Accepted,
-            Err(fault) => Answer::Refused {
-                number: fault.number(),
-                place: fault.place(),
-            },
-        };
-        (answer, slot.rows().len())
+// The row that the text says and nothing more, as row number `at` of its table.
+fn read_row<R: CaseRow>(text: &str, at: u16) -> anyhow::Result<R> {
+    let mut words = text.split_whitespace();
+    let row = R::read(&mut words, at)?;
+    match words.next() {
+        None => Ok(row),
+        Some(_) => Err(anyhow!("a word too many")),
     }
 }
 
-impl CaseRow for DerivationRow {
-    fn read(text: &str, at: u16) -> anyhow::Result<DerivationRow> {
-        let mut words = text.split_whitespace();
-        let rule = words.next().context("no rule")?.parse::<u8>()?;
-        let syntax = words.next().context("no syntax row")?.parse::<u16>()?;
-        let first = field(words.next(), at)?;
-        let second = field(words.next(), at)?;
-        let third = field(words.next(), at)?;
-        let value = words.next().context("no value")?.parse::<i32>()?;
-        no_more(words.next())?;
-        let premises = Fields {
-            first,
-            second,
-            third,
-        };
-        Ok(DerivationRow {
-            rule,
-            syntax,
-            premises,
-            value,
-        })
-    }
-
-    fn fill(rows: &[DerivationRow], spans: &[u16]) -> (Answer, usize) {
-        let mut slot = Derivation::skip();
-        let answer = match slot.fill(RawDerivation::new(rows, spans)) {
-            Ok(()) => Answer::Accepted,
-            Err(fault) => Answer::Refused {
-                number: fault.number(),
-                place: fault.place(),
-            },
-        };
-        (answer, slot.rows().len())
-    }
-}
-
-// The row that the text says, so many times.
+// The row that the text says, so many times. It is read each time, since it may name the row before.
 fn push_rows<R: CaseRow>(rows: &mut Vec<R>, text: &str, times: u16) -> anyhow::Result<()> {
     for _ in 0..times {
         let at = u16::try_from(rows.len())?;
-        rows.push(R::read(text, at)?)?;
+        rows.push(read_row(text, at)?)?;
     }
     Ok(())
 }
@@ -140,16 +92,19 @@ pub(crate) fn read_rows<R: CaseRow>(heap: Global, text: &str) -> anyhow::Result<
     Ok(rows)
 }
 
+// What a slot answers when it is offered these rows with these spans, and how many rows it holds afterwards.
+pub(crate) fn fill<R: TableRow>(rows: &[R], spans: &[u16]) -> (Result<(), Refusal>, usize) {
+    let mut slot = Screened::skip();
+    let answer = slot
+        .fill(RawTable::new(rows, spans))
+        .map_err(|fault| fault.refusal());
+    (answer, slot.rows().len())
+}
+
 // Screens a table, and offers it to a slot where that accepts it. A slot that is offered nothing holds one row.
-pub(crate) fn load<R: CaseRow>(rows: &[R], spans: &mut [u16]) -> (Answer, usize) {
+pub(crate) fn load<R: TableRow>(rows: &[R], spans: &mut [u16]) -> (Result<(), Refusal>, usize) {
     match screen(rows, spans) {
-        Ok(()) => R::fill(rows, spans),
-        Err(fault) => (
-            Answer::Refused {
-                number: fault.number(),
-                place: fault.place(),
-            },
-            1,
-        ),
+        Ok(()) => fill(rows, spans),
+        Err(fault) => (Err(fault.refusal()), 1),
     }
 }

@@ -1,47 +1,49 @@
 // Span memory, as a case asks for it and as it is printed.
 use std::alloc::Global;
+use std::fmt;
 
-// What stands where no screening has written a span. No span is so large.
+// What stands where no screening has written a span. No span is so large. A number and no `Option`: what is lent is numbers.
 const BLANK: u16 = 65535;
 
-// The spans that a table brings with it.
-fn held(heap: Global, text: &str) -> anyhow::Result<Vec<u16>> {
-    let mut spans = Vec::new(heap);
-    for word in text.split_whitespace() {
-        spans.push(word.parse::<u16>()?)?;
-    }
-    Ok(spans)
-}
-
-// Memory for so many spans.
-fn blank(heap: Global, count: u16) -> anyhow::Result<Vec<u16>> {
-    let mut spans = Vec::new(heap);
-    for _ in 0..count {
-        spans.push(BLANK)?;
-    }
-    Ok(spans)
+// A span that a table brings with it.
+fn held(word: &str) -> anyhow::Result<u16> {
+    Ok(word.parse::<u16>()?)
 }
 
 // The memory that a case asks for: `=` and spans, or how many there are to be.
 pub(crate) fn read(heap: Global, memory: &str) -> anyhow::Result<Vec<u16>> {
     match memory.strip_prefix("=") {
-        Some(spans) => held(heap, spans),
-        None => blank(heap, memory.parse::<u16>()?),
+        Some(spans) => spans.split_whitespace().map(held).try_collect(heap),
+        None => Ok(vec![in heap; BLANK; memory.parse::<u16>()? as usize]?),
     }
 }
 
 // The most spans that are printed of a table: its last ones.
 const PRINTED: usize = 14;
 
-// The rest of a line, with a point for each span that is not written.
-pub(crate) fn print(rt: &HostRuntime, spans: &[u16]) -> anyhow::Result<()> {
-    for span in spans.iter().skip(spans.len().saturating_sub(PRINTED)) {
-        if *span == BLANK {
-            print!(rt; " .")?;
-        } else {
-            print!(rt; " {span}")?;
+// A span as it is printed: a point where none is written.
+#[derive(Clone, Copy)]
+struct Shown(u16);
+
+impl fmt::Display for Shown {
+    fn fmt<W: fmt::Write>(&self, f: &mut fmt::Formatter<W>) -> fmt::Result {
+        match self.0 {
+            BLANK => f.write_str("."),
+            span => write!(f, "{span}"),
         }
     }
-    println!(rt; "")?;
-    Ok(())
+}
+
+// Span memory as it is printed: its last spans, each after a blank.
+#[derive(Clone, Copy)]
+pub(crate) struct Printed<'s>(pub(crate) &'s [u16]);
+
+impl fmt::Display for Printed<'_> {
+    fn fmt<W: fmt::Write>(&self, f: &mut fmt::Formatter<W>) -> fmt::Result {
+        let Printed(spans) = *self;
+        for span in spans.iter().skip(spans.len().saturating_sub(PRINTED)) {
+            write!(f, " {}", Shown(*span))?;
+        }
+        Ok(())
+    }
 }

@@ -1,3 +1,4 @@
 pub mod Trees
 pub mod Exact
 pub mod Steps
+pub mod Shown

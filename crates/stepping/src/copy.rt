@@ -1,68 +1,76 @@
 // Copies of trees, which the unrolling of a loop needs.
+// By hand: tried a derived `Clone`, and the proof did not close, since a caller learns nothing of such a copy of a tree.
 ghost use Rattle.std.specs.Prelude.{◌≡◌, IfOk};
 ghost use Rattle.stepping.specs.Trees.{expression_of, test_of, command_of};
 
 use crate::tree::{Command, Expression, Test};
-use std::alloc::{AllocError, Global};
+use std::alloc::AllocError;
 
-impl Expression {
+// A value in a box of its own, made by the allocator of another box.
+fn boxed<T: Drop>(value: T, other: &Box<T>) -> Result<Box<T>, AllocError>
+    ensures { IfOk result (λ b. b.value ≡ value) }
+{
+    Ok(Box::new(*Box::allocator(other), value)?)
+}
+
+impl Clone for Expression {
     // The same tree once more.
-    pub(crate) fn copy(&self, heap: Global) -> Result<Expression, AllocError>
-        ensures { IfOk result (λ e. expression_of e ≡ expression_of self.now) }
-    {
+    ghost is_clone = { λ e copy. expression_of copy ≡ expression_of e };
+
+    fn clone(&self) -> Result<Expression, AllocError> {
         match self {
             Expression::Numeral(n) => Ok(Expression::Numeral(*n)),
             Expression::Value(v) => Ok(Expression::Value(*v)),
             Expression::Name(x) => Ok(Expression::Name(*x)),
             Expression::Operation(operator, left, right) => {
-                let left = Box::new(heap, left.copy(heap)?)?;
-                let right = Box::new(heap, right.copy(heap)?)?;
+                let left = boxed(Expression::clone(left)?, left)?;
+                let right = boxed(Expression::clone(right)?, right)?;
                 Ok(Expression::Operation(*operator, left, right))
             }
         }
     }
 }
 
-impl Test {
+impl Clone for Test {
     // The same tree once more.
-    pub(crate) fn copy(&self, heap: Global) -> Result<Test, AllocError>
-        ensures { IfOk result (λ b. test_of b ≡ test_of self.now) }
-    {
+    ghost is_clone = { λ b copy. test_of copy ≡ test_of b };
+
+    fn clone(&self) -> Result<Test, AllocError> {
         match self {
             Test::Truth(t) => Ok(Test::Truth(*t)),
-            Test::Less(left, right) => Ok(Test::Less(left.copy(heap)?, right.copy(heap)?)),
-            Test::Not(test) => Ok(Test::Not(Box::new(heap, test.copy(heap)?)?)),
+            Test::Less(left, right) => Ok(Test::Less(left.clone()?, right.clone()?)),
+            Test::Not(test) => Ok(Test::Not(boxed(Test::clone(test)?, test)?)),
             Test::And(left, right) => {
-                let left = Box::new(heap, left.copy(heap)?)?;
-                let right = Box::new(heap, right.copy(heap)?)?;
+                let left = boxed(Test::clone(left)?, left)?;
+                let right = boxed(Test::clone(right)?, right)?;
                 Ok(Test::And(left, right))
             }
         }
     }
 }
 
-impl Command {
+impl Clone for Command {
     // The same tree once more.
-    pub(crate) fn copy(&self, heap: Global) -> Result<Command, AllocError>
-        ensures { IfOk result (λ c. command_of c ≡ command_of self.now) }
-    {
+    ghost is_clone = { λ c copy. command_of copy ≡ command_of c };
+
+    fn clone(&self) -> Result<Command, AllocError> {
         match self {
             Command::Skip => Ok(Command::Skip),
-            Command::Assign(name, value) => Ok(Command::Assign(*name, value.copy(heap)?)),
+            Command::Assign(name, value) => Ok(Command::Assign(*name, value.clone()?)),
             Command::Sequence(first, second) => {
-                let first = Box::new(heap, first.copy(heap)?)?;
-                let second = Box::new(heap, second.copy(heap)?)?;
+                let first = boxed(Command::clone(first)?, first)?;
+                let second = boxed(Command::clone(second)?, second)?;
                 Ok(Command::Sequence(first, second))
             }
             Command::If(test, yes, no) => {
-                let test = test.copy(heap)?;
-                let yes = Box::new(heap, yes.copy(heap)?)?;
-                let no = Box::new(heap, no.copy(heap)?)?;
+                let test = test.clone()?;
+                let yes = boxed(Command::clone(yes)?, yes)?;
+                let no = boxed(Command::clone(no)?, no)?;
                 Ok(Command::If(test, yes, no))
             }
             Command::While(test, body) => {
-                let test = test.copy(heap)?;
-                let body = Box::new(heap, body.copy(heap)?)?;
+                let test = test.clone()?;
+                let body = boxed(Command::clone(body)?, body)?;
                 Ok(Command::While(test, body))
             }
         }

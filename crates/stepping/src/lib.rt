@@ -3,5 +3,6 @@
 #![tactic(auto)]
 
 mod copy;
+pub mod error;
 mod step;
 pub mod tree;

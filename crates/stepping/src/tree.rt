@@ -1,14 +1,30 @@
 // The trees of the language as they lie in memory.
 
+use std::fmt;
+
 // Sum and product.
-#[derive(Clone, Copy)]
+#[derive(Clone, Copy, Debug, PartialEq, Eq)]
 pub enum Operator {
     Plus,
     Times,
 }
 
+impl fmt::Display for Operator {
+    ghost use Rattle.std.specs.Prelude.{Some};
+    ghost use Rattle.stepping.specs.Shown.{sign};
+
+    ghost output = { λ o. Some (sign o) };
+
+    fn fmt<W: fmt::Write>(&self, f: &mut fmt::Formatter<W>) -> fmt::Result {
+        match self {
+            Operator::Plus => f.write_str("+"),
+            Operator::Times => f.write_str("*"),
+        }
+    }
+}
+
 // What has a number.
-#[derive(Drop)]
+#[derive(Debug, Drop, PartialEq, Eq)]
 pub enum Expression {
     Numeral(i32),
     // what a step leaves in the place of what it evaluated; no program holds one
@@ -18,7 +34,7 @@ pub enum Expression {
 }
 
 // What is true or false.
-#[derive(Drop)]
+#[derive(Debug, Drop, PartialEq, Eq)]
 pub enum Test {
     Truth(bool),
     Less(Expression, Expression),
@@ -27,7 +43,7 @@ pub enum Test {
 }
 
 // What changes bindings: a program, or what is left of one.
-#[derive(Drop)]
+#[derive(Debug, Drop, PartialEq, Eq)]
 pub enum Command {
     Skip,
     Assign(u8, Expression),

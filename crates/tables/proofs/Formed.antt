@@ -1,116 +1,48 @@
--- The rows form a program exactly when they are well-formed.
-use Rattle.std.proofs.Common.{◌≡◌, ℕ, zero, suc, ◌+◌, ◌-◌, ◌<◌, true, List, [], ◌∷◌, length, take, is_ok, IfOk, Some, None, Ok, Err, Option, Result, sym, refl, ap, ◌∙◌, subst, inl, inr, arith}
-use Rattle.std.proofs.lemmas.Bool.{cases_Bool, cases_lt, and_parts}
+-- Well-formed rows form a program, what a refusal says of rows that form none, and so what a program's answer means.
+use Rattle.std.proofs.Common.{◌≡◌, ℕ, suc, ◌+◌, ◌-◌, ◌<◌, true, List, [], ◌∷◌, length, Some, None, Ok, Err, Option, Result, sym, refl, ap, ◌∙◌, subst, inl, inr, arith}
+use Rattle.std.proofs.lemmas.Bool.{cases_Bool, cases_lt}
 use Rattle.std.specs.List.{slice_get}
 use Rattle.std.specs.Result.{result_and}
 use Rattle.rows.specs.declared.syntax.Sort.{Sort}
 use Rattle.rows.specs.declared.syntax.Sort.TheVariants.{Expression, Test, Command}
 use Rattle.rows.specs.declared.syntax.Kind.{Kind}
 use Rattle.rows.specs.declared.syntax.SyntaxRow.{SyntaxRow}
-use Rattle.screening.specs.declared.fault.ScreenFault.{ScreenFault}
 use Rattle.tables.specs.declared.fault.ProgramFault.{ProgramFault}
-use Rattle.tables.specs.declared.fault.ProgramFault.TheVariants.{Screening, ChildSort, Datum, NotCommand}
-use Rattle.rows.specs.Fields.{in_order}
+use Rattle.tables.specs.declared.fault.ProgramFault.TheVariants.{ChildSort, Datum, NotCommand}
 use Rattle.rows.specs.Syntax.{kind_of, children_of, admitted}
 use Rattle.tables.specs.Forming.{sort_at, same_sort, is_of, have_sorts, formed_as, formed_row, ends_in_command, formed_from, formed, then_formed, Sorts, FormedRow, WellFormed, Reached}
 use Rattle.rows.specs.Citing.{longest_program, children_cited, syntax_cites}
-use Rattle.rows.specs.declared.fields.Fields.{Fields}
-use Rattle.screening.specs.Spans.{Accepted, SpansLaw}
-use Rattle.tables.specs.Screened.{LawfulProgram, Refused, ProgramLaw}
+use Rattle.screening.specs.Spans.{SpansLaw}
+use Rattle.tables.specs.Screened.{Refused, ProgramLaw}
+use Rattle.tables.specs.SyntaxLaws.{sorted_sorts, formed_as_is, formed_well}
 use Rattle.screening.proofs.Scans.{none_of, not_ok, ok_not_err, cases_result}
 use Rattle.screening.proofs.Forests.{length-post}
 use Rattle.screening.specs.Trees.{size, Lists, tree, Citations}
-use Rattle.std.proofs.lemmas.Option.{slice_get_past}
-
-same_sort_is : (s t : Sort) → same_sort s t ≡ true → t ≡ s
-same_sort_is Expression Expression e = refl
-same_sort_is Expression Test e = not_ok e
-same_sort_is Expression Command e = not_ok e
-same_sort_is Test Expression e = not_ok e
-same_sort_is Test Test e = refl
-same_sort_is Test Command e = not_ok e
-same_sort_is Command Expression e = not_ok e
-same_sort_is Command Test e = not_ok e
-same_sort_is Command Command e = refl
+use Rattle.std.proofs.lemmas.Option.{slice_get_within}
 
 same_sort_self : (s : Sort) → same_sort s s ≡ true
 same_sort_self Expression = refl
 same_sort_self Test = refl
 same_sort_self Command = refl
 
-is_of_is : (s : Sort) (o : Option Sort) → is_of s o ≡ true → o ≡ Some s
-is_of_is s None e = not_ok e
-is_of_is s (Some t) e = ap Some (same_sort_is s t e)
-
 is_of_self : (s : Sort) (o : Option Sort) → o ≡ Some s → is_of s o ≡ true
 is_of_self s o e = ap (is_of s) e ∙ same_sort_self s
-
-sorted_sorts : (rows : List SyntaxRow) (ss : List Sort) (ps : List ℕ) → have_sorts rows ss ps ≡ true → Sorts rows ss ps
-sorted_sorts rows [] ps e = tt
-sorted_sorts rows (s ∷ ss) [] e = not_ok e
-sorted_sorts rows (s ∷ ss) (p ∷ ps) e =
-    let (a, b) = and_parts (is_of s (sort_at rows p)) (have_sorts rows ss ps) e in
-    (is_of_is s (sort_at rows p) a, sorted_sorts rows ss ps b)
 
 sorts_sorted : (rows : List SyntaxRow) (ss : List Sort) (ps : List ℕ) → Sorts rows ss ps → have_sorts rows ss ps ≡ true
 sorts_sorted rows [] ps h = refl
 sorts_sorted rows (s ∷ ss) [] h = absurd h
 sorts_sorted rows (s ∷ ss) (p ∷ ps) h = rw (is_of_self s (sort_at rows p) h.0) (sorts_sorted rows ss ps h.1)
 
--- one row
-formed_as_is : (rows : List SyntaxRow) (i : ℕ) (row : SyntaxRow) (o : Option Kind) → kind_of row.kind ≡ o → formed_as rows i row o ≡ Ok tt → FormedRow rows row
-formed_as_is rows i row None k e = ok_not_err e
-formed_as_is rows i row (Some kind) k e =
-    elim (cases_Bool (have_sorts rows (children_of kind) (in_order row.children))) [
-      | inl s ↦
-          elim (cases_Bool (admitted kind row.datum)) [
-            | inl d ↦ record { kind = kind; known = k; sorts = sorted_sorts rows (children_of kind) (in_order row.children) s; datum = d }
-            | inr d ↦ let x : Err (Datum i) ≡ Ok tt = rw (s, d) at e in ok_not_err x
-          ]
-      | inr s ↦ let x : Err (ChildSort i) ≡ Ok tt = rw s at e in ok_not_err x
-    ]
-
 is_formed_row : (rows : List SyntaxRow) (i : ℕ) (row : SyntaxRow) → FormedRow rows row → formed_row rows i row ≡ Ok tt
 is_formed_row rows i row h =
-    let s : have_sorts rows (children_of h.kind) (in_order row.children) ≡ true = sorts_sorted rows (children_of h.kind) (in_order row.children) h.sorts in
+    let s : have_sorts rows (children_of h.kind) row.children ≡ true = sorts_sorted rows (children_of h.kind) row.children h.sorts in
     let d = h.datum in
     ap (formed_as rows i row) h.known ∙ rw (s, d) refl
-
-and_other_is : (r s : Result (Unit {0}) ProgramFault) → result_and r s ≡ Ok tt → (r ≡ Ok tt) × (s ≡ Ok tt)
-and_other_is (Ok tt) s e = (refl, e)
-and_other_is (Err fault) s e = ok_not_err e
-
--- all rows
-each_formed : (rows : List SyntaxRow) (i : ℕ) (rs : List SyntaxRow) → formed_from rows i rs ≡ Ok tt → (k : ℕ) (row : SyntaxRow) → slice_get rs k ≡ Some row → FormedRow rows row
-each_formed rows i [] e k row n = none_of n
-each_formed rows i (r ∷ rs) e zero row n =
-    let h : r ≡ row = cc in
-    let (a, _) = and_other_is (formed_row rows i r) (formed_from rows (i + 1) rs) e in
-    rw (← h) (formed_as_is rows i r (kind_of r.kind) refl a)
-each_formed rows i (r ∷ rs) e (suc k) row n =
-    let (_, b) = and_other_is (formed_row rows i r) (formed_from rows (i + 1) rs) e in
-    each_formed rows (i + 1) rs b k row n
-
-last_formed : (rows : List SyntaxRow) (i : ℕ) (rs : List SyntaxRow) → formed_from rows i rs ≡ Ok tt → ends_in_command rows ≡ Ok tt
-last_formed rows i [] e = e
-last_formed rows i (r ∷ rs) e =
-    let (_, b) = and_other_is (formed_row rows i r) (formed_from rows (i + 1) rs) e in
-    last_formed rows (i + 1) rs b
 
 is_formed_from : (rows : List SyntaxRow) (i : ℕ) (rs : List SyntaxRow) → ((k : ℕ) (row : SyntaxRow) → slice_get rs k ≡ Some row → FormedRow rows row) → ends_in_command rows ≡ Ok tt → formed_from rows i rs ≡ Ok tt
 is_formed_from rows i [] h e = e
 is_formed_from rows i (r ∷ rs) h e =
     rw (is_formed_row rows i r (h 0 r refl)) (is_formed_from rows (i + 1) rs (λ k row n. h (suc k) row n) e)
-
-command_is : (rows : List SyntaxRow) → ends_in_command rows ≡ Ok tt → sort_at rows (length rows - 1) ≡ Some Command
-command_is rows e =
-    elim (cases_Bool (is_of Command (sort_at rows (length rows - 1)))) [
-      | inl t ↦ is_of_is Command (sort_at rows (length rows - 1)) t
-      | inr f ↦ let x : Err (NotCommand (length rows - 1)) ≡ Ok tt = rw f at e in ok_not_err x
-    ]
-
-pub formed_well : (rows : List SyntaxRow) → formed rows ≡ Ok tt → WellFormed rows
-formed_well rows e = record { each = each_formed rows 0 rows e; command = command_is rows (last_formed rows 0 rows e) }
 
 pub well_formed : (rows : List SyntaxRow) → WellFormed rows → formed rows ≡ Ok tt
 well_formed rows h =
@@ -132,21 +64,18 @@ row_refused rows spans i at fault e =
     let kind = at.kind in
     let row = at.row in
     let e' : formed_as rows i row (Some kind) ≡ Err fault = ap (formed_as rows i row) (sym at.known) ∙ e in
-    elim (cases_Bool (have_sorts rows (children_of kind) (in_order row.children))) [
+    elim (cases_Bool (have_sorts rows (children_of kind) row.children)) [
       | inl s ↦
           elim (cases_Bool (admitted kind row.datum)) [
             | inl d ↦ let x : Ok tt ≡ Err fault = rw (s, d) at e' in ok_not_err (sym x)
             | inr d ↦
                 let x : Err (Datum i) ≡ Err fault = rw (s, d) at e' in
-                is_refused rows spans fault (Datum i) x (record { at = at; sorts = sorted_sorts rows (children_of kind) (in_order row.children) s; wrong = d })
+                is_refused rows spans fault (Datum i) x (record { at = at; sorts = sorted_sorts rows (children_of kind) row.children s; wrong = d })
           ]
       | inr s ↦
           let x : Err (ChildSort i) ≡ Err fault = rw s at e' in
-          is_refused rows spans fault (ChildSort i) x (record { at = at; wrong = λ h. not_ok (sym s ∙ sorts_sorted rows (children_of kind) (in_order row.children) h) })
+          is_refused rows spans fault (ChildSort i) x (record { at = at; wrong = λ h. not_ok (sym s ∙ sorts_sorted rows (children_of kind) row.children h) })
     ]
-
-within : (rows : List SyntaxRow) (k : ℕ) (row : SyntaxRow) → slice_get rows k ≡ Some row → k < length rows
-within rows k row e = elim (cases_lt k (length rows)) [ inl l ↦ l | inr g ↦ none_of (sym (slice_get_past rows k g) ∙ e) ]
 
 end_refused : (rows : List SyntaxRow) (spans : List ℕ) → 0 < length rows → Before rows (length rows) → (fault : ProgramFault) → ends_in_command rows ≡ Err fault → Refused rows spans fault
 end_refused rows spans z before fault e =
@@ -154,7 +83,7 @@ end_refused rows spans z before fault e =
       | inl t ↦ let x : Ok tt ≡ Err fault = rw t at e in ok_not_err (sym x)
       | inr t ↦
           let x : Err (NotCommand (length rows - 1)) ≡ Err fault = rw t at e in
-          is_refused rows spans fault (NotCommand (length rows - 1)) x (record { each = λ k row n. before k row (within rows k row n) n; last = omega arith; wrong = λ h. not_ok (sym t ∙ is_of_self Command (sort_at rows (length rows - 1)) h) })
+          is_refused rows spans fault (NotCommand (length rows - 1)) x (record { each = λ k row n. before k row (slice_get_within rows k row n) n; last = omega arith; wrong = λ h. not_ok (sym t ∙ is_of_self Command (sort_at rows (length rows - 1)) h) })
     ]
 
 before_more : (rows : List SyntaxRow) (i : ℕ) (row : SyntaxRow) → slice_get rows i ≡ Some row → FormedRow rows row → Before rows i → Before rows (i + 1)
@@ -187,7 +116,7 @@ forming_refused rows spans z known i (r ∷ rs) n link before fault e =
     ]
 
 -- every kind is known among rows that list a tree
-kind_cites : (o : Option Kind) (fields : Fields) (ps : List ℕ) → children_cited o fields ≡ Some ps → (kind : Kind) × (o ≡ Some kind)
+kind_cites : (o : Option Kind) (fields : List ℕ) (ps : List ℕ) → children_cited o fields ≡ Some ps → (kind : Kind) × (o ≡ Some kind)
 kind_cites None fields ps e = none_of e
 kind_cites (Some kind) fields ps e = (kind, refl)
 
@@ -199,28 +128,14 @@ all_known rows h k row n =
 some_rows : (rows : List SyntaxRow) → Lists syntax_cites rows → 0 < length rows
 some_rows rows t = let n : length rows ≡ size t.below + (1 + 0) = ap length t.listing ∙ length-post (tree t) in omega arith
 
--- what filling a slot with a program means
-and_formed : (a : Result (Unit {0}) ScreenFault) (rows : List SyntaxRow) → then_formed a rows ≡ Ok tt → (a ≡ Ok tt) × (formed rows ≡ Ok tt)
-and_formed (Ok tt) rows e = (refl, e)
-and_formed (Err fault) rows e = ok_not_err e
-
-then_refused : (rows : List SyntaxRow) (spans : List ℕ) (a : Result (Unit {0}) ScreenFault) → SpansLaw syntax_cites longest_program rows spans a → (fault : ProgramFault) → then_formed a rows ≡ Err fault → Refused rows spans fault
-then_refused rows spans (Ok tt) law fault e =
+-- what a program's answer means, where screening accepts its table
+pub forming_law : (rows : List SyntaxRow) (spans : List ℕ) → SpansLaw syntax_cites longest_program rows spans (Ok tt) → ProgramLaw rows spans (formed rows)
+forming_law rows spans law =
     let table = law.only refl in
     let t = table.lists in
-    forming_refused rows spans (some_rows rows t) (all_known rows table.citing) 0 rows (omega arith) (λ k. ap (slice_get rows) (omega arith)) (λ k row l n. let no : ⊥ = omega arith in absurd no) fault e
-then_refused rows spans (Err other) law fault e = is_refused rows spans fault (Screening other) e (law.refused other refl)
-
-pub program_law : (rows : List SyntaxRow) (spans : List ℕ) (a : Result (Unit {0}) ScreenFault) → SpansLaw syntax_cites longest_program rows spans a → (answer : Result (Unit {0}) ProgramFault) → answer ≡ then_formed a rows → ProgramLaw rows spans answer
-program_law rows spans a law answer e =
     record {
-      screened_first = λ memory h. e ∙ ap (λ x. then_formed x rows) (law.screened_first memory h);
-      only = λ ok. let (x, y) = and_formed a rows (sym e ∙ ok) in (law.only x, formed_well rows y);
-      every = λ t short rest h w. e ∙ ap (λ x. then_formed x rows) (law.every t short rest h) ∙ well_formed rows w;
-      refused = λ fault k. then_refused rows spans a law fault (sym e ∙ k);
+      screened_first = λ memory h. ap (λ x. then_formed x rows) (law.screened_first memory h);
+      only = λ ok. (table, formed_well rows ok);
+      every = λ t short rest h w. well_formed rows w;
+      refused = λ fault e. forming_refused rows spans (some_rows rows t) (all_known rows table.citing) 0 rows (omega arith) (λ k. ap (slice_get rows) (omega arith)) (λ k row l n. let no : ⊥ = omega arith in absurd no) fault e;
     }
-
--- and what is known where it accepts
-pub lawful_made : (rows : List SyntaxRow) (spans : List ℕ) (X : Type 0) → X → Accepted syntax_cites longest_program rows (take (length rows) spans) → (answer : Result (Unit {0}) ProgramFault) → answer ≡ formed rows → IfOk answer (λ _. X × LawfulProgram rows (take (length rows) spans))
-lawful_made rows spans X x a (Ok tt) e = (x, (a, sym (ap is_ok e)))
-lawful_made rows spans X x a (Err fault) e = tt

@@ -1,1 +1,2 @@
+mod Sorted
 mod Formed

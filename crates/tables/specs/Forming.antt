@@ -10,7 +10,6 @@ use Rattle.rows.specs.declared.syntax.SyntaxRow.{SyntaxRow}
 use Rattle.screening.specs.declared.fault.ScreenFault.{ScreenFault}
 use Rattle.tables.specs.declared.fault.ProgramFault.{ProgramFault}
 use Rattle.tables.specs.declared.fault.ProgramFault.TheVariants.{Screening, ChildSort, Datum, NotCommand}
-use Rattle.rows.specs.Fields.{in_order}
 use Rattle.rows.specs.Syntax.{kind_of, sort_of, children_of, admitted}
 
 -- the sort of a kind, if it is known
@@ -54,7 +53,7 @@ have_sorts rows (s ∷ ss) (p ∷ ps) = is_of s (sort_at rows p) && have_sorts r
 abbrev pub formed_as : List SyntaxRow → ℕ → SyntaxRow → Option Kind → Result (Unit {0}) ProgramFault
 formed_as rows i row None = Err (ChildSort i)
 formed_as rows i row (Some kind) =
-    cond (have_sorts rows (children_of kind) (in_order row.children))
+    cond (have_sorts rows (children_of kind) row.children)
     (cond (admitted kind row.datum) (Ok tt) (Err (Datum i)))
     (Err (ChildSort i))
 
@@ -90,7 +89,7 @@ Sorts rows (s ∷ ss) (p ∷ ps) = (sort_at rows p ≡ Some s) × Sorts rows ss 
 pub record FormedRow (rows : List SyntaxRow) (row : SyntaxRow) : Type 0 where
   pub kind : Kind
   pub known : kind_of row.kind ≡ Some kind
-  pub sorts : Sorts rows (children_of kind) (in_order row.children)
+  pub sorts : Sorts rows (children_of kind) row.children
   pub datum : admitted kind row.datum ≡ true
 
 -- the rows are those of a program, if they list a tree
@@ -109,12 +108,12 @@ pub record Reached (rows : List SyntaxRow) (i : ℕ) : Type 0 where
 -- Row i has a child of another sort.
 pub record WrongSort (rows : List SyntaxRow) (i : ℕ) : Type 0 where
   pub at : Reached rows i
-  pub wrong : Sorts rows (children_of at.kind) (in_order at.row.children) → ⊥
+  pub wrong : Sorts rows (children_of at.kind) at.row.children → ⊥
 
 -- Row i has children of its sorts, and a datum that its kind may not hold.
 pub record WrongDatum (rows : List SyntaxRow) (i : ℕ) : Type 0 where
   pub at : Reached rows i
-  pub sorts : Sorts rows (children_of at.kind) (in_order at.row.children)
+  pub sorts : Sorts rows (children_of at.kind) at.row.children
   pub wrong : admitted at.kind at.row.datum ≡ false
 
 -- All rows are formed, and the last one, i, is not a command.

@@ -1,3 +1,4 @@
 pub mod Forming
 pub mod Refusals
 pub mod Screened
+pub mod SyntaxLaws

@@ -1,5 +1,6 @@
 -- The published number of each refusal of a program, and the place that it names.
-use Rattle.screening.specs.Refusals.{Refusal, screen_refusal}
+use Rattle.screening.specs.declared.fault.Refusal.{Refusal}
+use Rattle.screening.specs.Refusals.{screen_refusal}
 use Rattle.tables.specs.declared.fault.ProgramFault.{ProgramFault}
 use Rattle.tables.specs.declared.fault.ProgramFault.TheVariants.{Screening, ChildSort, Datum, NotCommand}
 

@@ -1,6 +1,5 @@
 -- Screened programs and derivations: what holds of one as long as it exists, and what it is to fill a place with one.
-use Rattle.std.specs.Prelude.{◌≡◌, ℕ, ◌≤◌, true, List, ◌++◌, length, take, pos, is_ok, Ok, Err, Result}
-use Rattle.rows.specs.declared.fields.Fields.{Fields}
+use Rattle.std.specs.Prelude.{◌≡◌, ℕ, ◌≤◌, true, List, [], ◌∷◌, ◌++◌, length, take, pos, is_ok, Ok, Err, Option, Result}
 use Rattle.rows.specs.declared.syntax.SyntaxRow.{SyntaxRow}
 use Rattle.rows.specs.declared.derivation.DerivationRow.{DerivationRow}
 use Rattle.screening.specs.declared.fault.ScreenFault.{ScreenFault}
@@ -13,8 +12,8 @@ use Rattle.screening.specs.Spans.{confirmed, Accepted, TableLaw, Unconfirmed}
 use Rattle.tables.specs.Forming.{formed, then_formed, WellFormed, WrongSort, WrongDatum, NoCommand}
 
 -- the fields of a row that cites nothing
-abbrev pub no_citations : Fields
-no_citations = record { first = 65535; second = 65535; third = 65535 }
+abbrev pub no_citations : List ℕ
+no_citations = 65535 ∷ 65535 ∷ 65535 ∷ []
 
 -- the one row of the program that is built in: skip
 abbrev pub skip_row : SyntaxRow
@@ -24,13 +23,9 @@ skip_row = record { kind = 10; children = no_citations; datum = pos 0 }
 abbrev pub skip_rule_row : DerivationRow
 skip_rule_row = record { rule = 10; syntax = 0; premises = no_citations; value = pos 0 }
 
--- the rows and spans of a screened program, and of a screened derivation
-abbrev pub LawfulProgram : List SyntaxRow → List ℕ → Type 0
-LawfulProgram rows spans = Accepted syntax_cites longest_program rows spans × (is_ok (formed rows) ≡ true)
-
--- a derivation has to be accepted and nothing more
-abbrev pub LawfulDerivation : List DerivationRow → List ℕ → Type 0
-LawfulDerivation rows spans = Accepted derivation_cites longest_derivation rows spans
+-- the rows and spans of a screened table: screening accepts them, and the rows form what they must
+abbrev pub Lawful : {R E : Type 0} → (R → Option (List ℕ)) → ℕ → (List R → Result (Unit {0}) E) → List R → List ℕ → Type 0
+Lawful cited limit formed rows spans = Accepted cited limit rows spans × (is_ok (formed rows) ≡ true)
 
 -- the answer of filling a slot: the spans have to be those that screening writes, and the rows have to form a program
 abbrev pub program_answer : List SyntaxRow → List ℕ → Result (Unit {0}) ProgramFault

@@ -3,9 +3,9 @@ ghost use Rattle.std.specs.Prelude.{◌≡◌};
 ghost use Rattle.tables.specs.Refusals.{program_refusal};
 ghost use Rattle.tables.specs.declared.fault.ProgramFault.TheVariants.{Screening};
 
-use screening::fault::ScreenFault;
+use screening::fault::{Fault, Refusal, ScreenFault};
 
-#[derive(Clone, Copy)]
+#[derive(Clone, Copy, Debug, PartialEq, Eq)]
 pub enum ProgramFault {
     // the rows do not list a tree
     Screening(ScreenFault),
@@ -17,29 +17,17 @@ pub enum ProgramFault {
     NotCommand { row: u16 },
 }
 
-impl ProgramFault {
-    // The number under which the refusal is published.
-    pub fn number(self) -> u8
-        ensures { result ≡ (program_refusal self).number }
-    {
-        match self {
-            ProgramFault::Screening(fault) => fault.number(),
-            ProgramFault::ChildSort { row: _ } => 26,
-            ProgramFault::Datum { row: _ } => 27,
-            ProgramFault::NotCommand { row: _ } => 28,
-        }
-    }
+impl Fault for ProgramFault {
+    ghost published = { program_refusal };
 
-    // The row at fault, or 0 where none is.
-    pub fn place(self) -> u16
-        ensures { result ≡ (program_refusal self).place }
-    {
-        match self {
-            ProgramFault::Screening(fault) => fault.place(),
-            ProgramFault::ChildSort { row }
-            | ProgramFault::Datum { row }
-            | ProgramFault::NotCommand { row } => row,
-        }
+    fn refusal(self) -> Refusal {
+        let (number, place) = match self {
+            ProgramFault::Screening(fault) => return fault.refusal(),
+            ProgramFault::ChildSort { row } => (26, row),
+            ProgramFault::Datum { row } => (27, row),
+            ProgramFault::NotCommand { row } => (28, row),
+        };
+        Refusal { number, place }
     }
 }
 

@@ -5,3 +5,4 @@ pub mod derivation;
 pub mod fault;
 mod forming;
 pub mod program;
+pub mod table;

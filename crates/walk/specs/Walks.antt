@@ -36,4 +36,4 @@ module _ (c : Com) (before : List (Option ℤ)) (d : Com) (after : List (Option 
   abbrev pub ComesTo : ℕ → Outcome → Type 0
   ComesTo limit (Ended n) = (n ≤ limit) × AtEnd n
   ComesTo limit (Blocked n) = (n < limit) × AtStuck n
-  ComesTo limit Unfinished = Underway limit
+  ComesTo limit (Unfinished n) = (n ≡ limit) × Underway n

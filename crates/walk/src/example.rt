@@ -6,6 +6,9 @@ ghost use Rattle.walk.specs.Example.{one_round, OneRoundCounts, both_sides, endl
 use std::alloc::{AllocError, Global};
 use stepping::tree::{Command, Expression, Operator, Test};
 
+// The texts of the names, in their order.
+pub(crate) const NAMES: &[&str] = &["foo"];
+
 // The name that is shown as foo.
 const FOO: u8 = 0;
 

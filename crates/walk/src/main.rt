@@ -1,6 +1,7 @@
 // Walks programs by their small steps, as far as they go, and prints each configuration.
 #![tactic(auto)]
 
+mod configuration;
 mod example;
 mod outcome;
 mod show;
@@ -9,47 +10,48 @@ ghost use Rattle.std.specs.Prelude.{IfOk};
 ghost use Rattle.stepping.specs.Trees.{command_of};
 ghost use Rattle.walk.specs.Walks.{ComesTo};
 
+use configuration::Configuration;
 use outcome::Outcome;
 use std::alloc::Global;
 use std::io;
+use stepping::error::NoStep;
 use stepping::tree::Command;
 
 // Takes small steps as long as there is one, up to a limit, and prints each configuration that it comes to.
+#[tactic(auto, using(crate::proofs::Walks::walking))]
 fn walk(
     rt: &impl Print,
     heap: Global,
-    names: &[&str],
-    command: &mut Command,
-    numbers: &mut [Option<i32>],
+    configuration: &mut Configuration,
     limit: u32,
 ) -> io::Result<Outcome>
-    ensures { IfOk result (ComesTo (command_of command.old) numbers.old (command_of command.new) numbers.new limit) }
+    ensures { IfOk result (ComesTo (command_of configuration.old.command) configuration.old.numbers.items (command_of configuration.new.command) configuration.new.numbers.items limit) }
 {
+    // a counter, since the number of steps is what is answered
     for steps in 0..limit {
-        show::configuration(rt, steps, names, command, numbers)?;
-        if command.is_skip() {
+        println!(rt; "{steps:>2}  {configuration}")?;
+        if configuration.is_end() {
             return Ok(Outcome::Ended(steps));
         }
-        if !command.step(heap, numbers)? {
-            return Ok(Outcome::Stuck(steps));
+        match configuration.step(heap) {
+            Ok(()) => {}
+            Err(NoStep::NoNext) => return Ok(Outcome::Stuck(steps)),
+            Err(NoStep::OutOfMemory(refused)) => return Err(refused.into()),
         }
     }
-    show::configuration(rt, limit, names, command, numbers)?;
-    if command.is_skip() {
+    println!(rt; "{limit:>2}  {configuration}")?;
+    if configuration.is_end() {
         Ok(Outcome::Ended(limit))
     } else {
-        Ok(Outcome::Unfinished)
+        Ok(Outcome::Unfinished(limit))
     }
 }
 
 // Walks a program from no bindings, and says how it came out.
-fn show_walk(rt: &impl Print, heap: Global, mut command: Command, limit: u32) -> io::Result<()> {
-    let mut numbers = [None; 1];
-    match walk(rt, heap, &["foo"], &mut command, &mut numbers, limit)? {
-        Outcome::Ended(steps) => println!(rt; "ended after {steps} steps"),
-        Outcome::Stuck(steps) => println!(rt; "stuck after {steps} steps"),
-        Outcome::Unfinished => println!(rt; "not ended after {limit} steps"),
-    }
+fn show_walk(rt: &impl Print, heap: Global, command: Command, limit: u32) -> io::Result<()> {
+    let mut configuration = Configuration::start(heap, example::NAMES, command)?;
+    let outcome = walk(rt, heap, &mut configuration, limit)?;
+    println!(rt; "{outcome}")
 }
 
 fn main(rt: HostRuntime) -> io::Result<()> {

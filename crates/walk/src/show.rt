@@ -1,129 +1,147 @@
-// Configurations as text. A value that a step left stands in brackets, so that it is not taken for a numeral.
-use std::io;
-use stepping::tree::{Command, Expression, Operator, Test};
+// Phrases as text. A value that a step left stands in brackets, so that it is not taken for a numeral.
+ghost use Rattle.std.specs.Prelude.{◌≡◌};
 
-// A text around a phrase that stands inside another.
-fn bracket(rt: &impl Print, inside: bool, text: &str) -> io::Result<()> {
-    if inside { print!(rt; "{text}") } else { Ok(()) }
+use std::fmt;
+use std::fmt::Display;
+use stepping::tree::{Command, Expression, Test};
+
+// A name, shown by its text, or by its number if it has none.
+#[derive(Drop)]
+struct Name<'a> {
+    names: &'a [&'a str],
+    name: u8,
 }
 
-// A name by its text, or by its number if it has none.
-fn name(rt: &impl Print, names: &[&str], name: u8) -> io::Result<()> {
-    match names.get(name as usize) {
-        Some(text) => print!(rt; "{text}"),
-        None => print!(rt; "name {name}"),
-    }
-}
-
-// The sign between two operands.
-fn sign(operator: Operator) -> &'static str {
-    match operator {
-        Operator::Plus => "+",
-        Operator::Times => "*",
-    }
-}
-
-// An expression; in parentheses where it is an operation inside another phrase.
-fn expression(rt: &impl Print, names: &[&str], e: &Expression, inside: bool) -> io::Result<()> {
-    match e {
-        Expression::Numeral(n) => print!(rt; "{n}"),
-        Expression::Value(v) => print!(rt; "[{v}]"),
-        Expression::Name(x) => name(rt, names, *x),
-        Expression::Operation(operator, left, right) => {
-            let sign = sign(*operator);
-            bracket(rt, inside, "(")?;
-            expression(rt, names, left, true)?;
-            print!(rt; " {sign} ")?;
-            expression(rt, names, right, true)?;
-            bracket(rt, inside, ")")
+impl fmt::Display for Name<'_> {
+    fn fmt<W: fmt::Write>(&self, f: &mut fmt::Formatter<W>) -> fmt::Result {
+        let name = self.name;
+        match self.names.get(name as usize) {
+            Some(text) => write!(f, "{text}"),
+            None => write!(f, "name {name}"),
         }
     }
 }
 
-// A test; in parentheses where it is inside another and not one word.
-fn test(rt: &impl Print, names: &[&str], b: &Test, inside: bool) -> io::Result<()> {
-    match b {
-        Test::Truth(t) => print!(rt; "{t}"),
-        Test::Less(left, right) => {
-            bracket(rt, inside, "(")?;
-            expression(rt, names, left, true)?;
-            print!(rt; " < ")?;
-            expression(rt, names, right, true)?;
-            bracket(rt, inside, ")")
+// A phrase with the texts of its names, shown in parentheses where it is inside another and made of others.
+#[derive(Drop)]
+pub(crate) struct Named<'a, T> {
+    names: &'a [&'a str],
+    phrase: &'a T,
+    inside: bool,
+}
+
+impl<'a, T> Named<'a, T> {
+    // A phrase that stands alone.
+    pub(crate) fn new(names: &'a [&'a str], phrase: &'a T) -> Named<'a, T>
+        ensures { result.phrase.now ≡ phrase.now }
+    {
+        Named {
+            names,
+            phrase,
+            inside: false,
         }
-        Test::Not(b) => {
-            bracket(rt, inside, "(")?;
-            print!(rt; "not ")?;
-            test(rt, names, b, true)?;
-            bracket(rt, inside, ")")
+    }
+
+    // A part that needs no parentheses.
+    fn part<P>(&self, phrase: &'a P) -> Named<'a, P>
+        ensures { result.phrase.now ≡ phrase.now }
+    {
+        Named::new(self.names, phrase)
+    }
+
+    // A part that may need parentheses.
+    fn inner<P>(&self, phrase: &'a P) -> Named<'a, P>
+        ensures { result.phrase.now ≡ phrase.now }
+    {
+        Named {
+            inside: true,
+            ..self.part(phrase)
         }
-        Test::And(left, right) => {
-            bracket(rt, inside, "(")?;
-            test(rt, names, left, true)?;
-            print!(rt; " and ")?;
-            test(rt, names, right, true)?;
-            bracket(rt, inside, ")")
+    }
+
+    // A name of the phrase.
+    fn name(&self, name: u8) -> Name<'a> {
+        Name {
+            names: self.names,
+            name,
+        }
+    }
+
+    // What stands before the phrase and after it, where it may be made of others.
+    fn parentheses(&self, is_made_of_others: bool) -> (&'static str, &'static str) {
+        if self.inside && is_made_of_others {
+            ("(", ")")
+        } else {
+            ("", "")
         }
     }
 }
 
-// A command; in parentheses where it is inside another and made of others.
-fn command(rt: &impl Print, names: &[&str], c: &Command, inside: bool) -> io::Result<()> {
-    match c {
-        Command::Skip => print!(rt; "skip"),
-        Command::Assign(x, e) => {
-            name(rt, names, *x)?;
-            print!(rt; " := ")?;
-            expression(rt, names, e, false)
+// A part of the phrase's own type is shown by a call: tried `write!` of it, and the proof of that recursion did not close.
+
+impl fmt::Display for Named<'_, Expression> {
+    fn fmt<W: fmt::Write>(&self, f: &mut fmt::Formatter<W>) -> fmt::Result {
+        let (open, close) = self.parentheses(matches!(self.phrase, Expression::Operation(_, _, _)));
+        f.write_str(open)?;
+        match self.phrase {
+            Expression::Numeral(n) => write!(f, "{n}")?,
+            Expression::Value(v) => write!(f, "[{v}]")?,
+            Expression::Name(x) => write!(f, "{}", self.name(*x))?,
+            Expression::Operation(operator, left, right) => {
+                self.inner::<Expression>(left).fmt(f)?;
+                write!(f, " {operator} ")?;
+                self.inner::<Expression>(right).fmt(f)?;
+            }
         }
-        Command::Sequence(first, second) => {
-            bracket(rt, inside, "(")?;
-            command(rt, names, first, true)?;
-            print!(rt; "; ")?;
-            command(rt, names, second, false)?;
-            bracket(rt, inside, ")")
-        }
-        Command::If(b, yes, no) => {
-            bracket(rt, inside, "(")?;
-            print!(rt; "if ")?;
-            test(rt, names, b, false)?;
-            print!(rt; " then ")?;
-            command(rt, names, yes, true)?;
-            print!(rt; " else ")?;
-            command(rt, names, no, true)?;
-            bracket(rt, inside, ")")
-        }
-        Command::While(b, body) => {
-            bracket(rt, inside, "(")?;
-            print!(rt; "while ")?;
-            test(rt, names, b, false)?;
-            print!(rt; " do ")?;
-            command(rt, names, body, true)?;
-            bracket(rt, inside, ")")
-        }
+        f.write_str(close)
     }
 }
 
-// The bound names that have a text, each with its number.
-fn bindings(rt: &impl Print, names: &[&str], numbers: &[Option<i32>]) -> io::Result<()> {
-    for (text, number) in names.iter().zip(numbers.iter()) {
-        if let Some(number) = number {
-            print!(rt; " | {text} = {number}")?;
+impl fmt::Display for Named<'_, Test> {
+    fn fmt<W: fmt::Write>(&self, f: &mut fmt::Formatter<W>) -> fmt::Result {
+        let (open, close) = self.parentheses(!matches!(self.phrase, Test::Truth(_)));
+        f.write_str(open)?;
+        match self.phrase {
+            Test::Truth(t) => write!(f, "{t}")?,
+            Test::Less(left, right) => write!(f, "{} < {}", self.inner(left), self.inner(right))?,
+            Test::Not(test) => {
+                f.write_str("not ")?;
+                self.inner::<Test>(test).fmt(f)?;
+            }
+            Test::And(left, right) => {
+                self.inner::<Test>(left).fmt(f)?;
+                f.write_str(" and ")?;
+                self.inner::<Test>(right).fmt(f)?;
+            }
         }
+        f.write_str(close)
     }
-    Ok(())
 }
 
-// One line: the steps taken so far, what is left of the program, and the bindings.
-pub(crate) fn configuration(
-    rt: &impl Print,
-    steps: u32,
-    names: &[&str],
-    c: &Command,
-    numbers: &[Option<i32>],
-) -> io::Result<()> {
-    print!(rt; "{steps:>2}  ")?;
-    command(rt, names, c, false)?;
-    bindings(rt, names, numbers)?;
-    println!(rt; "")
+impl fmt::Display for Named<'_, Command> {
+    fn fmt<W: fmt::Write>(&self, f: &mut fmt::Formatter<W>) -> fmt::Result {
+        let is_one_word = matches!(self.phrase, Command::Skip | Command::Assign(_, _));
+        let (open, close) = self.parentheses(!is_one_word);
+        f.write_str(open)?;
+        match self.phrase {
+            Command::Skip => f.write_str("skip")?,
+            Command::Assign(x, value) => write!(f, "{} := {}", self.name(*x), self.part(value))?,
+            Command::Sequence(first, second) => {
+                self.inner::<Command>(first).fmt(f)?;
+                f.write_str("; ")?;
+                self.part::<Command>(second).fmt(f)?;
+            }
+            Command::If(test, yes, no) => {
+                write!(f, "if {} then ", self.part(test))?;
+                self.inner::<Command>(yes).fmt(f)?;
+                f.write_str(" else ")?;
+                self.inner::<Command>(no).fmt(f)?;
+            }
+            Command::While(test, body) => {
+                write!(f, "while {} do ", self.part(test))?;
+                self.inner::<Command>(body).fmt(f)?;
+            }
+        }
+        f.write_str(close)
+    }
 }

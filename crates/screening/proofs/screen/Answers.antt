@@ -1,18 +1,10 @@
 -- Where the loop stops, the answer and the memory are those of the definition, and the law follows from that.
-use Rattle.std.proofs.Common.{◌≡◌, length, take, refl, ap, ◌∙◌, arith}
+use Rattle.std.proofs.Common.{◌≡◌, length, take, ap, ◌∙◌, arith}
 use Rattle.std.proofs.lemmas.Result.{err_from_is_err_and}
 use Rattle.screening.specs.Screening.{with_row, whole, screened}
 use Rattle.screening.proofs.Scans.{told_err, scanned_none, scanned_more, stopped, stopped_at_row, stopped_at_end}
 use Rattle.screening.proofs.Laws.{law_of}
 use Rattle.screening.proofs.screen.Goals as goal
-
-pub returns-in_err-room_for : goal.returns-in_err-room_for
-returns-in_err-room_for g c =
-    let p = err_from_is_err_and c.from_residual.result c.from_residual.ensures.1 in
-    let room = c.in_err-room_for.ensures.answer in
-    let a : c.from_residual.result ≡ (screened g.R.Citing.cited g.R.Citing.limit c.args.rows.now c.args.spans.now).answer = rw (p.1, p.2, ← room) refl in
-    let w : c.args.spans.now ≡ (screened g.R.Citing.cited g.R.Citing.limit c.args.rows.now c.args.spans.now).written = rw (← room) refl in
-    record { answer = a; memory = w; law = law_of _ _ _ _ _ _ a w }
 
 pub write_span-requires : goal.write_span-requires
 write_span-requires g c =

@@ -15,12 +15,12 @@ turn rows i row l r e inv =
 pub returns-in_err-check_row : goal.returns-in_err-check_row
 returns-in_err-check_row c =
     let p = err_from_is_err_and c.from_residual.result c.from_residual.ensures.1 in
-    rw (p.1, p.2) (turn c.args.rows.now c.loop-i.i _ c.loop-i-test.true _ c.in_err-check_row.ensures c.loop-i.invariant)
+    rw (p.1, p.2) (turn c.args.listed.now.rows.now c.loop-i.i _ c.loop-i-test.true _ c.in_err-check_row.ensures c.loop-i.invariant)
 
 pub loop-i-preserved : goal.loop-i-preserved
 loop-i-preserved c =
-    turn c.args.rows.now c.loop-i.i _ c.loop-i-test.true _ c.in_ok-check_row.ensures c.loop-i.invariant
+    turn c.args.listed.now.rows.now c.loop-i.i _ c.loop-i-test.true _ c.in_ok-check_row.ensures c.loop-i.invariant
 
 pub returns : goal.returns
 returns c =
-    c.check_end.ensures ∙ sym (at_drop_all (formed_from c.args.rows.now c.loop-i.i) c.args.rows.now c.loop-i.i (omega arith)) ∙ c.loop-i.invariant
+    c.check_end.ensures ∙ sym (at_drop_all (formed_from c.args.listed.now.rows.now c.loop-i.i) c.args.listed.now.rows.now c.loop-i.i (omega arith)) ∙ c.loop-i.invariant

@@ -1,5 +1,0 @@
-use Rattle.stepping.proofs.tree.Command.TheLaws.{the_size}
-use Rattle.stepping.proofs.tree.Command.+step.Given as goal
-
-abbrev pub decreases-step : goal.decreases-step
-decreases-step l = the_size l.self.now
