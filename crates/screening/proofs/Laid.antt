@@ -1,7 +1,7 @@
 -- Where the trees of cited rows begin, from the last of them to the first.
 use Rattle.std.proofs.Common.{◌≡◌, ℕ, ◌≤◌, List, [], ◌∷◌, ◌++◌, Some, None, Option, refl, ap, arith}
 use Rattle.screening.specs.Screening.{before, laid}
-use Rattle.screening.proofs.Scans.{before_is}
+use Rattle.std.proofs.lemmas.Bool.Decides.{nat_tests}
 
 -- where the trees of these rows begin, if those after them begin here
 abbrev pub under : List ℕ → Option ℕ → List ℕ → Option ℕ
@@ -21,7 +21,4 @@ under_none done [] = refl
 under_none done (p ∷ ps) = ap (before done p) (under_none done ps)
 
 pub before_le : (done : List ℕ) (p n m : ℕ) → before done p (Some n) ≡ Some m → m ≤ n
-before_le done p n m e =
-    let h = before_is done p (Some n) m e in
-    let same : n ≡ h.0 = cc in
-    omega arith
+before_le done p n m e = grind (arith, nat_tests)

@@ -1,5 +1,5 @@
 -- Whether children are of their sorts, pair by pair.
-use Rattle.std.proofs.Common.{rules, ◌≡◌, ℕ, ◌<◌, ◌≤◌, ◌&&◌, Bool, true, false, length, List, [], ◌∷◌, refl, ap, ◌∙◌}
+use Rattle.std.proofs.Common.{◌≡◌, ℕ, ◌<◌, ◌≤◌, false, List, [], ◌∷◌, length, refl, arith, rules}
 use Rattle.std.specs.List.{list_all, zip}
 use Rattle.rows.specs.declared.syntax.Sort.{Sort}
 use Rattle.rows.specs.declared.syntax.SyntaxRow.{SyntaxRow}
@@ -8,15 +8,9 @@ use Rattle.tables.specs.Forming.{sort_at, is_of, have_sorts}
 -- as many children as sorts, or more
 pub have_sorts_zip : (rows : List SyntaxRow) (ss : List Sort) (ps : List ℕ) → length ss ≤ length ps → have_sorts rows ss ps ≡ list_all (λ q. is_of q.0 (sort_at rows q.1)) (zip ss ps)
 have_sorts_zip rows [] ps le = refl
-have_sorts_zip rows (s ∷ ss) [] le = search rules
-have_sorts_zip rows (s ∷ ss) (p ∷ ps) le = ap (λ b. is_of s (sort_at rows p) && b) (have_sorts_zip rows ss ps (search rules))
-
-and_false : (b : Bool) → b && false ≡ false
-and_false true = refl
-and_false false = refl
+have_sorts_zip rows (s ∷ ss) ps le = grind (arith, have_sorts_zip rows ss)
 
 -- fewer children than sorts
 pub have_sorts_few : (rows : List SyntaxRow) (ss : List Sort) (ps : List ℕ) → length ps < length ss → have_sorts rows ss ps ≡ false
 have_sorts_few rows [] ps lt = search rules
-have_sorts_few rows (s ∷ ss) [] lt = refl
-have_sorts_few rows (s ∷ ss) (p ∷ ps) lt = ap (λ b. is_of s (sort_at rows p) && b) (have_sorts_few rows ss ps (search rules)) ∙ and_false (is_of s (sort_at rows p))
+have_sorts_few rows (s ∷ ss) ps lt = grind (arith, have_sorts_few rows ss)
