@@ -30,6 +30,7 @@ fn load<R: Shown>(rt: &impl Print, rows: &[R], spans: &mut [u16]) -> io::Result<
 }
 
 fn main(rt: HostRuntime) -> io::Result<()> {
+    // memory for the spans of each table, as long as the longest of them
     let mut spans = [0; 12];
     println!(rt; "The cost of an edge: while x < 2 do x := 1 + 1")?;
     load(&rt, &edge::program(), &mut spans)?;

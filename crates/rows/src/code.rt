@@ -1,5 +1,5 @@
-// Codes: the numbers that stand for kinds and rules. Each enum has its table of codes beside it; one function over both would
-// need lists of the variants that are as long.
+// Codes: the numbers that stand for kinds and rules. `Kind` and `Rule` have impls of their own to convert and to show them: the
+// language has no `impl` of `TryFrom` or `Display` for every type of a trait, and their tables have nothing in common.
 ghost use Rattle.std.specs.Prelude.{Some};
 ghost use Rattle.rows.specs.Code.{unknown_code_text};
 

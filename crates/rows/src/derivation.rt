@@ -9,10 +9,11 @@ use crate::code::UnknownCode;
 use crate::fields::{Fields, citing};
 use std::fmt;
 
-// A row of a derivation, as it comes, with any byte for its rule: a rule used at a syntax row, its premises by their rows, and the value that it gives.
+// A row of a derivation, as it comes, with any byte for its rule: a rule used at a syntax row, its premises by their rows, and
+// the value that it gives.
 #[derive(Clone, Copy, Debug, PartialEq, Eq)]
 pub struct DerivationRow {
-    // a byte and no `Rule`: any byte may come, and a row is written back as it was read
+    // a byte and no `Rule`: any byte may come
     pub rule: u8,
     pub syntax: u16,
     pub premises: Fields,

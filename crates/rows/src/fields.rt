@@ -1,4 +1,5 @@
-// The three fields of a row that may cite earlier rows of its table.
+// The three fields of a row that may cite earlier rows of its table. They cite by number: a table stays as it came, in memory
+// that the caller lends.
 ghost use Rattle.std.specs.Prelude.{◌≡◌};
 ghost use Rattle.std.specs.Option.{option_copied};
 ghost use Rattle.rows.specs.Fields.{unused, used, padded};
@@ -31,7 +32,8 @@ fn unused(fields: &[u16]) -> bool
     fields.iter().all(|field| *field == UNUSED)
 }
 
-// The rows cited by a row that cites one for each of `parts`; none where another field is in use.
+// The rows cited by a row that cites one for each of `parts`; none where another field is in use, or where there are more
+// parts than fields.
 #[tactic(auto, using(crate::proofs::Cut::used_short, crate::proofs::Cut::used_cut))]
 pub fn cited<'f, T>(fields: &'f Fields, parts: &[T]) -> Option<&'f [u16]>
     ensures { option_copied result ≡ used parts.now fields.now }

@@ -12,7 +12,7 @@ use std::fmt;
 // A row of a program, as it comes, with any byte for its kind: a phrase, its children by their rows, and its numeral or name.
 #[derive(Clone, Copy, Debug, PartialEq, Eq)]
 pub struct SyntaxRow {
-    // a byte and no `Kind`: any byte may come, and a row is written back as it was read
+    // a byte and no `Kind`: any byte may come
     pub kind: u8,
     pub children: Fields,
     pub datum: i32,

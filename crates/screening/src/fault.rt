@@ -4,7 +4,8 @@ ghost use Rattle.screening.specs.Refusals.{screen_refusal};
 
 use std::fmt;
 
-// What is published of a refusal: its number, and the row at fault, or 0 where none is.
+// What is published of a refusal: its number, and the row at fault, or 0 where none is. Two numbers, since that is the form in
+// which it is published.
 #[derive(Clone, Copy, Debug, PartialEq, Eq)]
 pub struct Refusal {
     pub number: u8,

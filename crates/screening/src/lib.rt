@@ -12,7 +12,7 @@ ghost use Rattle.screening.specs.Spans.{held_span, confirmed, Accepted, SpansLaw
 use crate::fault::ScreenFault;
 use rows::citing::Citing;
 
-// The spans of the rows so far: no span passes its row, and their number fits 16 bits.
+// The spans of the rows so far: no span passes its row, and there are fewer than 65,535.
 #[derive(Clone, Copy)]
 struct Done<'s> {
     spans: &'s [u16],
@@ -71,6 +71,18 @@ impl Done<'_> {
         }
         Ok(())
     }
+
+    // Whether the last of the spans covers them all.
+    fn whole(&self) -> Result<(), ScreenFault>
+        requires { 0 < length self.now.spans.now }
+        ensures { result ≡ whole self.now.spans.now }
+    {
+        let last = self.spans.len() - 1;
+        if self.spans[last] as usize != self.spans.len() {
+            return Err(ScreenFault::SeveralTrees { row: last as u16 });
+        }
+        Ok(())
+    }
 }
 
 // Writes the span of row i, if it has one.
@@ -101,23 +113,10 @@ fn room_for<R: Citing>(rows: &[R], spans: &[u16]) -> Result<(), ScreenFault>
     Ok(())
 }
 
-// Whether the last of the spans covers them all.
-fn whole_table(spans: &[u16]) -> Result<(), ScreenFault>
-    requires some { 0 < length spans.now }
-    requires short { length spans.now < 65536 }
-    ensures { result ≡ whole spans.now }
-{
-    let last = spans.len() - 1;
-    if spans[last] as usize != spans.len() {
-        return Err(ScreenFault::SeveralTrees { row: last as u16 });
-    }
-    Ok(())
-}
-
 // Screens a table and writes the span of each row. A refusal leaves the spans of the rows before it; what lies past the
 // rows is never written.
-// Its loop and that of `confirm` stay apart: one writes the spans that the other reads, so a shared loop would be handed a
-// closure for each.
+// Its loop and that of `confirm` stay apart, and rows and spans are two parameters of both: one writes the spans that the other
+// reads, so a loop or a type for both would be handed a closure or come twice.
 #[tactic(auto, using(crate::proofs::Laws::law_of))]
 pub fn screen<R: Citing>(rows: &[R], spans: &mut [u16]) -> Result<(), ScreenFault>
     ensures answer { result ≡ (screened R.cited R.limit rows.now spans.old).answer }
@@ -128,7 +127,10 @@ pub fn screen<R: Citing>(rows: &[R], spans: &mut [u16]) -> Result<(), ScreenFaul
     for (i, row) in rows.iter().enumerate() {
         write_span(row, i, spans)?;
     }
-    whole_table(&spans[..rows.len()])
+    let done = Done {
+        spans: &spans[..rows.len()],
+    };
+    done.whole()
 }
 
 // Whether the spans held are those that screening would write for these rows, and it would accept them.
@@ -144,5 +146,8 @@ pub fn confirm<R: Citing>(rows: &[R], spans: &[u16]) -> Result<(), ScreenFault>
         let done = Done { spans: &spans[..i] };
         done.confirm_next(row, spans[i])?;
     }
-    whole_table(&spans[..rows.len()])
+    let done = Done {
+        spans: &spans[..rows.len()],
+    };
+    done.whole()
 }

@@ -12,7 +12,7 @@ use anyhow::{Context, anyhow};
 use case::CaseRow;
 use rows::derivation::DerivationRow;
 use rows::syntax::SyntaxRow;
-use spans::Printed;
+use spans::{Memory, Printed};
 
 // Prints what is answered of a table, the rows that the slot holds afterwards, and the spans.
 fn print_table<R: CaseRow>(
@@ -22,17 +22,11 @@ fn print_table<R: CaseRow>(
     text: &str,
 ) -> anyhow::Result<()> {
     let rows = case::read_rows::<R>(rt.alloc(), text)?;
-    let mut spans = spans::read(rt.alloc(), memory)?;
-    let (answer, held) = if memory.starts_with("=") {
-        case::fill(&rows, &spans)
-    } else {
-        case::load(&rows, &mut spans)
+    let (outcome, spans) = match spans::read(rt.alloc(), memory)? {
+        Memory::Lent(mut spans) => (case::load(&rows, &mut spans), spans),
+        Memory::Brought(spans) => (case::fill(&rows, &spans), spans),
     };
-    match answer {
-        Ok(()) => print!(rt; "{title}: accepted")?,
-        Err(refusal) => print!(rt; "{title}: refused {refusal}")?,
-    }
-    println!(rt; ", holds {held}, spans{}", Printed(&spans))?;
+    println!(rt; "{title}: {outcome}, spans{}", Printed(&spans))?;
     Ok(())
 }
 
@@ -40,7 +34,7 @@ fn print_line(rt: &HostRuntime, line: &str) -> anyhow::Result<()> {
     let (title, rest) = line.split_once("; ").context("no title")?;
     let (part, rest) = rest.split_once("; ").context("no part")?;
     let (memory, rows) = rest.split_once("; ").context("no memory")?;
-    // the word picks the type of the rows, which no closure could do
+    // the word picks the type of the rows, and a closure cannot pick a type
     match part {
         "program" => print_table::<SyntaxRow>(rt, title, memory, rows),
         "table" => print_table::<DerivationRow>(rt, title, memory, rows),

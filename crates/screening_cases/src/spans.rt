@@ -2,7 +2,8 @@
 use std::alloc::Global;
 use std::fmt;
 
-// What stands where no screening has written a span. No span is so large. A number and no `Option`: what is lent is numbers.
+// What stands where no screening has written a span. No span is so large. A number and no `Option`: the memory that is lent
+// holds numbers.
 const BLANK: u16 = 65535;
 
 // A span that a table brings with it.
@@ -10,12 +11,23 @@ fn held(word: &str) -> anyhow::Result<u16> {
     Ok(word.parse::<u16>()?)
 }
 
+// The span memory of a case.
+#[derive(Debug, Drop)]
+pub(crate) enum Memory {
+    // lent to a screening, which writes it
+    Lent(Vec<u16>),
+    // brought by a table that is not screened first
+    Brought(Vec<u16>),
+}
+
 // The memory that a case asks for: `=` and spans, or how many there are to be.
-pub(crate) fn read(heap: Global, memory: &str) -> anyhow::Result<Vec<u16>> {
-    match memory.strip_prefix("=") {
-        Some(spans) => spans.split_whitespace().map(held).try_collect(heap),
-        None => Ok(vec![in heap; BLANK; memory.parse::<u16>()? as usize]?),
-    }
+pub(crate) fn read(heap: Global, memory: &str) -> anyhow::Result<Memory> {
+    let Some(spans) = memory.strip_prefix("=") else {
+        let count = memory.parse::<u16>()? as usize;
+        return Ok(Memory::Lent(vec![in heap; BLANK; count]?));
+    };
+    let spans = spans.split_whitespace().map(held).try_collect(heap)?;
+    Ok(Memory::Brought(spans))
 }
 
 // The most spans that are printed of a table: its last ones.

@@ -1,12 +1,13 @@
 // Copies of trees, which the unrolling of a loop needs.
-// By hand: tried a derived `Clone`, and the proof did not close, since a caller learns nothing of such a copy of a tree.
+// By hand: a derived `Clone` was tried, and the proof did not close, since a caller learns nothing of such a copy of a tree.
 ghost use Rattle.std.specs.Prelude.{◌≡◌, IfOk};
 ghost use Rattle.stepping.specs.Trees.{expression_of, test_of, command_of};
 
 use crate::tree::{Command, Expression, Test};
 use std::alloc::AllocError;
 
-// A value in a box of its own, made by the allocator of another box.
+// A value in a box of its own, made by the allocator of another box. The `clone` of a `Box` stays out of the copies below: it
+// was tried, and the check writes no proof of a `clone` that calls it.
 fn boxed<T: Drop>(value: T, other: &Box<T>) -> Result<Box<T>, AllocError>
     ensures { IfOk result (λ b. b.value ≡ value) }
 {

@@ -1,5 +1,5 @@
 // The small steps of trees, in place, leftmost first. A list of numbers, one or none for each name, holds the bindings.
-// The three matches on two sides stay apart: what they step and what they make differ, and a shared form is no plainer.
+// The three matches on two operands stay apart: what they step and what they make differ, and a shared form is no plainer.
 ghost use Rattle.std.specs.Prelude.{◌≡◌, ◌↔◌, true, IfOk, IsSome, IsNone, if◌then◌else◌};
 ghost use Rattle.imp.specs.Bindings.{bind as binding};
 ghost use Rattle.imp.specs.Small.{stands as stands_for, result_of};
@@ -21,7 +21,7 @@ fn look(numbers: &[Option<i32>], name: u8) -> Option<i32>
     *numbers.get(name as usize)?
 }
 
-// Binds a name that the list has; there is none where it has not.
+// Binds a name that the list has; answers `None`, and changes nothing, for any other.
 fn bind(numbers: &mut [Option<i32>], name: u8, value: i32) -> Option<()>
     ensures writable { IsSome result ↔ writable numbers.old name ≡ true }
     ensures bound { IsSome result → bound numbers.new ≡ binding (bound numbers.old) name value }
@@ -31,7 +31,7 @@ fn bind(numbers: &mut [Option<i32>], name: u8, value: i32) -> Option<()>
     if name >= numbers.len() {
         return None;
     }
-    // by index: tried `get_mut`, and the proof did not close, since a write through it says nothing of the elements
+    // By index: `get_mut` was tried, and the proof did not close, since a write through it says nothing of the elements.
     numbers[name] = Some(value);
     Some(())
 }
@@ -124,16 +124,17 @@ fn branch(test: bool, yes: &mut Command, no: &mut Command) -> Command
 }
 
 // body; while test do body
-fn round(heap: Global, test: &Test, body: &Box<Command>) -> Result<Command, AllocError>
-    ensures { IfOk result (λ c. command_of c ≡ seq (command_of body.now.value) (loop_of (test_of test.now) (command_of body.now.value))) }
+fn round(heap: Global, test: &Test, body: &Command) -> Result<Command, AllocError>
+    ensures { IfOk result (λ c. command_of c ≡ seq (command_of body.now) (loop_of (test_of test.now) (command_of body.now))) }
 {
-    let again = Command::While(test.clone()?, body.clone()?);
-    Ok(Command::Sequence(body.clone()?, Box::new(heap, again)?))
+    let again = Command::While(test.clone()?, Box::new(heap, body.clone()?)?);
+    let body = Box::new(heap, body.clone()?)?;
+    Ok(Command::Sequence(body, Box::new(heap, again)?))
 }
 
 // if test then (body; while test do body) else skip
-fn unrolled(heap: Global, test: &Test, body: &Box<Command>) -> Result<Command, AllocError>
-    ensures { IfOk result (λ c. command_of c ≡ ifte (test_of test.now) (seq (command_of body.now.value) (loop_of (test_of test.now) (command_of body.now.value))) skip) }
+fn unrolled(heap: Global, test: &Test, body: &Command) -> Result<Command, AllocError>
+    ensures { IfOk result (λ c. command_of c ≡ ifte (test_of test.now) (seq (command_of body.now) (loop_of (test_of test.now) (command_of body.now))) skip) }
 {
     let round = Box::new(heap, round(heap, test, body)?)?;
     let skip = Box::new(heap, Command::Skip)?;

@@ -1,4 +1,4 @@
--- Screened programs and derivations: what holds of one as long as it exists, and what it is to fill a place with one.
+-- Screened programs and derivations: what holds of one as long as it exists, and what it is to fill a slot with one.
 use Rattle.std.specs.Prelude.{◌≡◌, ℕ, ◌≤◌, true, List, [], ◌∷◌, ◌++◌, length, take, pos, is_ok, Ok, Err, Option, Result}
 use Rattle.rows.specs.declared.syntax.SyntaxRow.{SyntaxRow}
 use Rattle.rows.specs.declared.derivation.DerivationRow.{DerivationRow}

@@ -16,6 +16,7 @@ pub type RawProgram<'r, 's> = RawTable<'r, 's, SyntaxRow>;
 
 pub type Program<'r, 's> = Screened<'r, 's, SyntaxRow>;
 
+// The command skip. A static for each kind of row: one for both would need a type parameter.
 static SKIP: [SyntaxRow; 1] = [SyntaxRow {
     kind: Kind::Skip as u8,
     children: NO_CITATIONS,

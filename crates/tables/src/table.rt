@@ -8,7 +8,7 @@ use rows::citing::Citing;
 use screening::confirm;
 use screening::fault::{Fault, ScreenFault};
 
-// Rows that a screening accepts: there are some, and their numbers fit 16 bits.
+// Rows of a table that a screening accepted, of which is known here that there are some, and fewer than 65,536.
 #[derive(Drop)]
 pub struct Listed<'r, R> {
     pub(crate) rows: &'r [R],
@@ -16,7 +16,7 @@ pub struct Listed<'r, R> {
     ghost short: { length rows.now < 65536 },
 }
 
-// Rows of which tables are screened: what they must form beyond a tree, and the one row of the table that is built in.
+// Rows whose tables can be screened and held: what they must form beyond a tree, and the one row of the table that is built in.
 pub trait TableRow: Citing + Copy + 'static {
     // Why a table is refused.
     type Fault: Fault + From<ScreenFault>;
@@ -61,7 +61,8 @@ pub trait TableRow: Citing + Copy + 'static {
     ghost refused_law: { (rows : List Self) (spans : List ℕ) (fault : ScreenFault) (made : Self.Fault) → Self.Fault.from_gives fault made → SpansLaw Self.cited Self.limit rows spans (Err fault) → Law rows spans (Err made) };
 }
 
-// A table that may be screened, with the spans that a screening wrote for it.
+// A table that may be screened, with the spans that a screening wrote for it. Rows and spans lie apart, where the caller has
+// them: no table is copied.
 #[derive(Drop)]
 pub struct RawTable<'r, 's, R> {
     rows: &'r [R],

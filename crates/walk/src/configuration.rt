@@ -15,8 +15,9 @@ pub(crate) struct Configuration {
     // the text of each name
     names: &'static [&'static str],
     command: Command,
-    // the number of each name, or none
+    // the number of each name, or none; a list apart from the names, since a step takes it as one
     numbers: Vec<Option<i32>>,
+    ghost matching: { length numbers.items ≡ length names.now },
 }
 
 impl Configuration {

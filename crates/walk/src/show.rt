@@ -30,6 +30,7 @@ pub(crate) struct Named<'a, T> {
     inside: bool,
 }
 
+// That each constructor shows the phrase which it is given stands in the contracts of three: no invariant can say which it was.
 impl<'a, T> Named<'a, T> {
     // A phrase that stands alone.
     pub(crate) fn new(names: &'a [&'a str], phrase: &'a T) -> Named<'a, T>
@@ -77,7 +78,8 @@ impl<'a, T> Named<'a, T> {
     }
 }
 
-// A part of the phrase's own type is shown by a call: tried `write!` of it, and the proof of that recursion did not close.
+// A part of the phrase's own type is shown by a call of `fmt`: `write!` of it was tried, and the proof of that recursion did not
+// close.
 
 impl fmt::Display for Named<'_, Expression> {
     fn fmt<W: fmt::Write>(&self, f: &mut fmt::Formatter<W>) -> fmt::Result {

@@ -18,5 +18,5 @@ loop-i-preserved g c =
 pub returns : goal.returns
 returns g c =
     let fits = c.in_ok-room_for.ensures.fits in
-    let h = confirmed_end _ _ _ _ _ c.loop-i.invariant (omega arith) fits c.in_ok-room_for.ensures.answer c.whole_table.result c.whole_table.ensures in
+    let h = confirmed_end _ _ _ _ _ c.loop-i.invariant (omega arith) fits c.in_ok-room_for.ensures.answer c.whole.result c.whole.ensures in
     record { answer = h.answer; fits = search rules; law = spans_law _ _ _ _ _ h.answer h.accepted; accepted = h.accepted }

@@ -22,5 +22,5 @@ loop-i-preserved g c =
 pub returns : goal.returns
 returns g c =
     let fits = c.in_ok-room_for.ensures.fits in
-    let s = stopped_at_end _ _ _ _ _ _ c.loop-i.invariant c.in_ok-room_for.ensures.answer (omega arith) (omega arith) c.whole_table.result c.whole_table.ensures in
+    let s = stopped_at_end _ _ _ _ _ _ c.loop-i.invariant c.in_ok-room_for.ensures.answer (omega arith) (omega arith) c.whole.result c.whole.ensures in
     record { answer = s.answer; memory = s.written; law = law_of _ _ _ _ _ _ s.answer s.written }
