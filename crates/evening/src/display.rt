@@ -1,5 +1,6 @@
 // Screened tables as text.
 use rows::citing::Citing;
+use rows::code::UnknownCode;
 use rows::derivation::{DerivationRow, Rule};
 use rows::syntax::{Kind, SyntaxRow};
 use std::fmt;
@@ -26,10 +27,7 @@ impl Shown for SyntaxRow {
     const HEAD: &'static str = "row  kind        children    datum  span";
 
     fn fmt_code<W: fmt::Write>(&self, f: &mut fmt::Formatter<W>) -> fmt::Result {
-        match Kind::try_from(self.kind) {
-            Ok(kind) => write!(f, "{kind:<10}"),
-            Err(_) => write!(f, "unknown   "),
-        }
+        write!(f, "{:<10}", Code(Kind::try_from(self.kind)))
     }
 
     fn number(&self) -> i32 {
@@ -43,15 +41,29 @@ impl Shown for DerivationRow {
     const HEAD: &'static str = "row  rule     syntax row  premises    value  span";
 
     fn fmt_code<W: fmt::Write>(&self, f: &mut fmt::Formatter<W>) -> fmt::Result {
-        match Rule::try_from(self.rule) {
-            Ok(rule) => write!(f, "{rule:<7}")?,
-            Err(_) => write!(f, "unknown")?,
-        }
-        write!(f, "  {:>10}", self.syntax)
+        write!(
+            f,
+            "{:<7}  {:>10}",
+            Code(Rule::try_from(self.rule)),
+            self.syntax
+        )
     }
 
     fn number(&self) -> i32 {
         self.value
+    }
+}
+
+// What a code stands for, shown by its name.
+#[derive(Clone, Copy)]
+struct Code<T>(Result<T, UnknownCode>);
+
+impl<T: fmt::Display> fmt::Display for Code<T> {
+    fn fmt<W: fmt::Write>(&self, f: &mut fmt::Formatter<W>) -> fmt::Result {
+        match &self.0 {
+            Ok(named) => named.fmt(f),
+            Err(_) => f.pad("unknown"),
+        }
     }
 }
 

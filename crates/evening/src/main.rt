@@ -10,7 +10,7 @@ use screening::screen;
 use std::io;
 use tables::table::{RawTable, Screened, TableRow};
 
-// The screened table of these rows, or why there is none.
+// The screened table of these rows, or why there is none. Rows and spans are two parameters: see `screen`.
 fn screened<'r, 's, R: TableRow>(
     rows: &'r [R],
     spans: &'s mut [u16],
@@ -30,7 +30,7 @@ fn load<R: Shown>(rt: &impl Print, rows: &[R], spans: &mut [u16]) -> io::Result<
 }
 
 fn main(rt: HostRuntime) -> io::Result<()> {
-    // memory for the spans of each table, as long as the longest of them
+    // memory for the spans of each table, as long as the longest of them; an array, since nothing of a table is allocated
     let mut spans = [0; 12];
     println!(rt; "The cost of an edge: while x < 2 do x := 1 + 1")?;
     load(&rt, &edge::program(), &mut spans)?;

@@ -30,7 +30,8 @@ pub trait Citing {
     ghost limited: { limit < 65535 };
 }
 
-// The two impls stay apart: a trait to share the two lines of `citations` would be longer than both.
+// The two impls stay apart: `longest` gives each its constant, and a trait to share the two lines of `citations` would be longer
+// than both.
 impl Citing for SyntaxRow {
     ghost limit = { longest_program };
 

@@ -1,5 +1,6 @@
-// Codes: the numbers that stand for kinds and rules. `Kind` and `Rule` have impls of their own to convert and to show them: the
-// language has no `impl` of `TryFrom` or `Display` for every type of a trait, and their tables have nothing in common.
+// Codes: the numbers that stand for kinds and rules. `Kind` and `Rule` each have their own impls to convert and to show them,
+// and their own table of names: the language allows no `impl` of `TryFrom` or `Display` for every type that has a trait, and the
+// tables have nothing in common.
 ghost use Rattle.std.specs.Prelude.{Some};
 ghost use Rattle.rows.specs.Code.{unknown_code_text};
 

@@ -67,7 +67,7 @@ pub enum Rule {
     WhileT = 16,
 }
 
-// The rule that a code stands for, if it stands for one.
+// The rule that a code stands for, if it stands for one. This and what follows is apart from that of `Kind`: see code.rt.
 impl TryFrom<u8> for Rule {
     type Error = UnknownCode;
 

@@ -60,7 +60,7 @@ pub enum Kind {
     While = 14,
 }
 
-// The kind that a code stands for, if it stands for one.
+// The kind that a code stands for, if it stands for one. This and what follows is apart from that of `Rule`: see code.rt.
 impl TryFrom<u8> for Kind {
     type Error = UnknownCode;
 

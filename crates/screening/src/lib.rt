@@ -115,8 +115,9 @@ fn room_for<R: Citing>(rows: &[R], spans: &[u16]) -> Result<(), ScreenFault>
 
 // Screens a table and writes the span of each row. A refusal leaves the spans of the rows before it; what lies past the
 // rows is never written.
-// Its loop and that of `confirm` stay apart, and rows and spans are two parameters of both: one writes the spans that the other
-// reads, so a loop or a type for both would be handed a closure or come twice.
+// Its loop and that of `confirm` stay apart, since one writes the spans that the other only reads: a loop for both would need a
+// closure. For the same reason rows and spans are two parameters of both and of their callers: a type for the two would come
+// twice. The index of the loops tells which spans are done.
 #[tactic(auto, using(crate::proofs::Laws::law_of))]
 pub fn screen<R: Citing>(rows: &[R], spans: &mut [u16]) -> Result<(), ScreenFault>
     ensures answer { result ≡ (screened R.cited R.limit rows.now spans.old).answer }
@@ -133,7 +134,8 @@ pub fn screen<R: Citing>(rows: &[R], spans: &mut [u16]) -> Result<(), ScreenFaul
     done.whole()
 }
 
-// Whether the spans held are those that screening would write for these rows, and it would accept them.
+// Whether the spans held are those that screening would write for these rows, and it would accept them. For its form see
+// `screen`.
 #[tactic(auto, using(crate::proofs::Held::spans_law))]
 pub fn confirm<R: Citing>(rows: &[R], spans: &[u16]) -> Result<(), ScreenFault>
     ensures answer { result ≡ confirmed R.cited R.limit rows.now spans.now }

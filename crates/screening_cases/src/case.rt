@@ -127,7 +127,7 @@ impl fmt::Display for Outcome {
     }
 }
 
-// Offers these rows with these spans to a slot.
+// Offers these rows with these spans to a slot. Rows and spans are two parameters here and below: see `screen`.
 pub(crate) fn fill<R: TableRow>(rows: &[R], spans: &[u16]) -> Outcome {
     let mut slot = Screened::skip();
     let answer = slot

@@ -12,7 +12,7 @@ fn held(word: &str) -> anyhow::Result<u16> {
 }
 
 // The span memory of a case.
-#[derive(Debug, Drop)]
+#[derive(Debug, Drop, PartialEq, Eq)]
 pub(crate) enum Memory {
     // lent to a screening, which writes it
     Lent(Vec<u16>),

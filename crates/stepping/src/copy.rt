@@ -6,8 +6,8 @@ ghost use Rattle.stepping.specs.Trees.{expression_of, test_of, command_of};
 use crate::tree::{Command, Expression, Test};
 use std::alloc::AllocError;
 
-// A value in a box of its own, made by the allocator of another box. The `clone` of a `Box` stays out of the copies below: it
-// was tried, and the check writes no proof of a `clone` that calls it.
+// A value in a box of its own, made by the allocator of another box. The copies below call this and not the `clone` of a `Box`,
+// which was tried, and the proof did not close.
 fn boxed<T: Drop>(value: T, other: &Box<T>) -> Result<Box<T>, AllocError>
     ensures { IfOk result (λ b. b.value ≡ value) }
 {

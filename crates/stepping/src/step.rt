@@ -31,7 +31,8 @@ fn bind(numbers: &mut [Option<i32>], name: u8, value: i32) -> Option<()>
     if name >= numbers.len() {
         return None;
     }
-    // By index: `get_mut` was tried, and the proof did not close, since a write through it says nothing of the elements.
+    // By index: `get_mut` was tried, and the proof did not close, since its contract says nothing of the list after a write
+    // through it.
     numbers[name] = Some(value);
     Some(())
 }
@@ -123,7 +124,7 @@ fn branch(test: bool, yes: &mut Command, no: &mut Command) -> Command
     }
 }
 
-// body; while test do body
+// body; while test do body. Test and body come as two parameters, here and below, as the command holds them.
 fn round(heap: Global, test: &Test, body: &Command) -> Result<Command, AllocError>
     ensures { IfOk result (λ c. command_of c ≡ seq (command_of body.now) (loop_of (test_of test.now) (command_of body.now))) }
 {

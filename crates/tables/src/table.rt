@@ -8,7 +8,7 @@ use rows::citing::Citing;
 use screening::confirm;
 use screening::fault::{Fault, ScreenFault};
 
-// Rows of a table that a screening accepted, of which is known here that there are some, and fewer than 65,536.
+// Rows of a table that a screening accepted. It is known of them here that there are some, and fewer than 65,536.
 #[derive(Drop)]
 pub struct Listed<'r, R> {
     pub(crate) rows: &'r [R],
