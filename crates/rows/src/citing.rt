@@ -1,5 +1,5 @@
 // Kinds of rows that cite earlier rows of their table, so that such a table can be screened.
-ghost use Rattle.std.specs.Prelude.{◌≡◌, ℕ, ◌<◌, List, Option};
+ghost use Rattle.std.specs.Prelude.{◌≡◌, ℕ, ◌<◌, ◌≤◌, length, List, Option, IfSome};
 ghost use Rattle.std.specs.Option.{option_copied};
 ghost use Rattle.rows.specs.Citing.{longest_program, longest_derivation, syntax_cites, derivation_cites};
 ghost use Rattle.std.proofs.Common.{rules};
@@ -23,8 +23,10 @@ pub trait Citing {
     fn longest() -> usize
         ensures { result ≡ limit };
 
+    // at most three rows, since a phrase has at most three children and a rule at most three premises
     fn citations(&self) -> Option<&[u16]>
-        ensures { option_copied result ≡ cited self.now };
+        ensures same { option_copied result ≡ cited self.now }
+        ensures few { IfSome result (λ rows. length rows.now ≤ 3) };
 
     // so that row numbers and spans fit 16 bits, and 65,535 is no row
     ghost limited: { limit < 65535 };
