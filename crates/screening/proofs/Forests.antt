@@ -11,7 +11,7 @@ abbrev pub join : {R : Type 0} → Forest R → Forest R → Forest R
 join bare h = h
 join (plant r c g) h = plant r c (join g h)
 
-size-join : {R : Type 0} (g h : Forest R) → size (join g h) ≡ size g + size h
+pub size-join : {R : Type 0} (g h : Forest R) → size (join g h) ≡ size g + size h
 size-join bare h = omega arith
 size-join (plant r c g) h = omega (arith, size-join g h)
 
@@ -31,7 +31,7 @@ pub length-post : {R : Type 0} (f : Forest R) → length (post f) ≡ size f
 length-post bare = refl
 length-post (plant r c f) = omega (arith, length-append (post c) (r ∷ post f), length-post c, length-post f)
 
-join_assoc : {R : Type 0} (f g h : Forest R) → join (join f g) h ≡ join f (join g h)
+pub join_assoc : {R : Type 0} (f g h : Forest R) → join (join f g) h ≡ join f (join g h)
 join_assoc bare g h = refl
 join_assoc (plant r c f) g h = ap (plant r c) (join_assoc f g h)
 
@@ -53,7 +53,7 @@ pub record Apart {R : Type 0} (f : Forest R) : Type 0 where
   pub spans : spans_of f ≡ (spans_of earlier ++ spans_of below) ++ (size below + 1) ∷ []
   pub sizes : size f ≡ size earlier + size below + 1
 
-apart_by : {R : Type 0} (f g : Forest R) (r : R) (c : Forest R) → f ≡ join g (plant r c bare) → Apart f
+pub apart_by : {R : Type 0} (f g : Forest R) (r : R) (c : Forest R) → f ≡ join g (plant r c bare) → Apart f
 apart_by f g r c e =
     record {
       earlier = g;
@@ -65,7 +65,7 @@ apart_by f g r c e =
       sizes = rw e (omega (arith, size-join g (plant r c bare)));
     }
 
-apart_last : {R : Type 0} (r : R) (c f : Forest R) → Apart (plant r c f)
+pub apart_last : {R : Type 0} (r : R) (c f : Forest R) → Apart (plant r c f)
 apart_last r c bare = apart_by (plant r c bare) bare r c refl
 apart_last r c (plant q d f) =
     let l = apart_last q d f in
@@ -76,7 +76,7 @@ apart bare h = absurd (omega arith)
 apart (plant r c f) h = apart_last r c f
 
 -- the span of a root
-root_span : {R : Type 0} (pre : List ℕ) (c f : Forest R) (done : List ℕ) → done ≡ pre ++ (spans_of c ++ ((size c + 1) ∷ spans_of f)) → (p : ℕ) → p ≡ length pre + size c → get_or done p 0 ≡ size c + 1
+pub root_span : {R : Type 0} (pre : List ℕ) (c f : Forest R) (done : List ℕ) → done ≡ pre ++ (spans_of c ++ ((size c + 1) ∷ spans_of f)) → (p : ℕ) → p ≡ length pre + size c → get_or done p 0 ≡ size c + 1
 root_span pre c f done e p q = grind (arith, common_steps, length-spans_of)
 
 -- the roots of the last trees are laid as citations must be, and their spans are the rows of these trees
@@ -89,7 +89,7 @@ roots_laid pre (plant r c f) done e n q base b =
     let s = root_span pre c f done e (base + size c) (omega arith) in
     grind (arith, nat_tests)
 
-span_of-roots : {R : Type 0} (pre : List ℕ) (f : Forest R) (base : ℕ) → base ≡ length pre → span_of (pre ++ spans_of f) (roots base f) ≡ Some (size f + 1)
+pub span_of-roots : {R : Type 0} (pre : List ℕ) (f : Forest R) (base : ℕ) → base ≡ length pre → span_of (pre ++ spans_of f) (roots base f) ≡ Some (size f + 1)
 span_of-roots pre f base b =
     grind (arith, common_steps, length-spans_of, roots_laid pre f (pre ++ spans_of f) refl (length (pre ++ spans_of f)))
 
@@ -104,7 +104,7 @@ scan-post cited (plant r c f) more done base b k =
     let m = scan-post cited f more after (base + size c + 1) (omega (arith, length-append {A = ℕ}, length-spans_of c)) k.2 in
     rw append_assoc (i ∙ j ∙ m ∙ ap (scan cited more) (simp append_assoc))
 
-join_bare : {R : Type 0} (f : Forest R) → join f bare ≡ f
+pub join_bare : {R : Type 0} (f : Forest R) → join f bare ≡ f
 join_bare bare = refl
 join_bare (plant r c f) = ap (plant r c) (join_bare f)
 

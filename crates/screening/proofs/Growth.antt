@@ -10,11 +10,11 @@ use Rattle.screening.proofs.Scans.{cases_result, placed}
 use Rattle.screening.proofs.Forests.{join, post-join, spans_of-join, length-spans_of, length-post, cites_join, join_cites, apart, roots_laid, scan-post, size_zero, split}
 
 -- one more row: it takes the trees that it names below it
-record More {R : Type 0} (cited : R → Option (List ℕ)) (f : Forest R) (r : R) (s : ℕ) : Type 0 where
-  forest : Forest R
-  listing : post forest ≡ post f ++ r ∷ []
-  citing : Cites cited 0 forest
-  sized_as : spans_of forest ≡ spans_of f ++ s ∷ []
+pub record More {R : Type 0} (cited : R → Option (List ℕ)) (f : Forest R) (r : R) (s : ℕ) : Type 0 where
+  pub forest : Forest R
+  pub listing : post forest ≡ post f ++ r ∷ []
+  pub citing : Cites cited 0 forest
+  pub sized_as : spans_of forest ≡ spans_of f ++ s ∷ []
 
 more_at : {R : Type 0} (cited : R → Option (List ℕ)) (f g h : Forest R) → f ≡ join g h → Cites cited 0 f → (r : R) → cited r ≡ Some (roots (0 + size g) h) → (s : ℕ) → size h + 1 ≡ s → More cited f r s
 more_at cited f g h e k r known s u =
@@ -26,7 +26,7 @@ more_at cited f g h e k r known s u =
       sized_as = rw (e, ← u) (simp (spans_of-join, append_assoc));
     }
 
-more_by : {R : Type 0} (cited : R → Option (List ℕ)) (f : Forest R) → Cites cited 0 f → (r : R) (s : ℕ) → next_span (cited r) (spans_of f) ≡ Ok s → More cited f r s
+pub more_by : {R : Type 0} (cited : R → Option (List ℕ)) (f : Forest R) → Cites cited 0 f → (r : R) (s : ℕ) → next_span (cited r) (spans_of f) ≡ Ok s → More cited f r s
 more_by cited f k r s t =
     let p = placed (cited r) (spans_of f) s t in
     let d = split f (length (spans_of f)) (length-spans_of f) p.cites p.start p.laid_down in
@@ -56,7 +56,7 @@ abbrev pub Progress : {R : Type 0} → (R → Option (List ℕ)) → List R → 
 Progress cited rs f = Through cited rs f ⊎ Halfway cited rs f
 
 -- the progress from one more row on
-onward : {R : Type 0} (cited : R → Option (List ℕ)) (r : R) (rs : List R) (f : Forest R) (s : ℕ) (m : More cited f r s) → next_span (cited r) (spans_of f) ≡ Ok s → Progress cited rs m.forest → Progress cited (r ∷ rs) f
+pub onward : {R : Type 0} (cited : R → Option (List ℕ)) (r : R) (rs : List R) (f : Forest R) (s : ℕ) (m : More cited f r s) → next_span (cited r) (spans_of f) ≡ Ok s → Progress cited rs m.forest → Progress cited (r ∷ rs) f
 onward cited r rs f s m o p =
     let e : scan cited (r ∷ rs) (spans_of f) ≡ scan cited rs (spans_of m.forest) = rw (o, m.sized_as) in
     let l : (xs : List _) → post m.forest ++ xs ≡ post f ++ (r ∷ xs) = λ xs. rw (m.listing, append_assoc) in
@@ -105,7 +105,7 @@ pub is_room : (limit n memory : ℕ) → 0 < n → n ≤ limit → n ≤ memory 
 is_room limit n memory a b d = grind (arith, nat_tests)
 
 -- where every row has a span, the last one is the number of rows exactly where they list one tree
-whole_is : (done : List ℕ) (s : ℕ) → whole (done ++ s ∷ []) ≡ Ok tt → s ≡ length done + 1
+pub whole_is : (done : List ℕ) (s : ℕ) → whole (done ++ s ∷ []) ≡ Ok tt → s ≡ length done + 1
 whole_is done s h = grind (arith, nat_tests, common_steps)
 
 is_whole : (done : List ℕ) (s : ℕ) → s ≡ length done + 1 → whole (done ++ s ∷ []) ≡ Ok tt

@@ -22,13 +22,13 @@ pub record Rescanned {R : Type 0} (cited : R → Option (List ℕ)) (rows : List
   pub scanned : Scanned cited rows spans i spans
 
 -- row i, with the span that is held for it
-at_row : {R : Type 0} (cited : R → Option (List ℕ)) (rows : List R) (i : ℕ) (spans : List ℕ) → Rescanned cited rows i spans → (r : R) → i < length rows → i < length spans → r ≡ get_or rows i r → rescan cited rows [] spans ≡ result_and (held_span (length (take i spans)) (get_or spans i 0) (next_span (cited r) (take i spans))) (rescan cited (drop (i + 1) rows) (take (i + 1) spans) spans)
+pub at_row : {R : Type 0} (cited : R → Option (List ℕ)) (rows : List R) (i : ℕ) (spans : List ℕ) → Rescanned cited rows i spans → (r : R) → i < length rows → i < length spans → r ≡ get_or rows i r → rescan cited rows [] spans ≡ result_and (held_span (length (take i spans)) (get_or spans i 0) (next_span (cited r) (take i spans))) (rescan cited (drop (i + 1) rows) (take (i + 1) spans) spans)
 at_row cited rows i spans inv r l m e =
     let f : rescan cited (drop i rows) (take i spans) spans ≡ rescan cited (get_or rows i r ∷ drop (i + 1) rows) (take i spans) spans = at_drop_more (λ rs. rescan cited rs (take i spans) spans) rows i r l in
     sym inv.left ∙ f ∙ rw (← e, length-take-le i spans (omega arith), take_more spans i 0 m)
 
 -- a span that is held as it should be
-held_is : (row held : ℕ) (o : Result ℕ ScreenFault) → Ok tt ≡ held_span row held o → o ≡ Ok held
+pub held_is : (row held : ℕ) (o : Result ℕ ScreenFault) → Ok tt ≡ held_span row held o → o ≡ Ok held
 held_is row held o e = grind (arith, nat_tests)
 
 pub rescanned_more : {R : Type 0} (cited : R → Option (List ℕ)) (rows : List R) (i : ℕ) (spans : List ℕ) → Rescanned cited rows i spans → (r : R) → i < length rows → i < length spans → r ≡ get_or rows i r → Ok tt ≡ held_span (length (take i spans)) (get_or spans i 0) (next_span (cited r) (take i spans)) → Rescanned cited rows (i + 1) spans
@@ -47,7 +47,7 @@ pub is_ok_gives : {E : Type 0} (r : Result (Unit {0}) E) → is_ok r ≡ true �
 is_ok_gives r e = grind arith
 
 -- what is known where the loop came to its end
-accepted_made : {R : Type 0} (cited : R → Option (List ℕ)) (limit : ℕ) (rows : List R) (spans : List ℕ) → Fits limit (length rows) (length spans) → scan cited rows [] ≡ record { answer = whole (take (length rows) spans); written = take (length rows) spans } → (r : Result (Unit {0}) ScreenFault) → r ≡ whole (take (length rows) spans) → IfOk r (λ _. Accepted cited limit rows (take (length rows) spans))
+pub accepted_made : {R : Type 0} (cited : R → Option (List ℕ)) (limit : ℕ) (rows : List R) (spans : List ℕ) → Fits limit (length rows) (length spans) → scan cited rows [] ≡ record { answer = whole (take (length rows) spans); written = take (length rows) spans } → (r : Result (Unit {0}) ScreenFault) → r ≡ whole (take (length rows) spans) → IfOk r (λ _. Accepted cited limit rows (take (length rows) spans))
 accepted_made cited limit rows spans fits s (Ok _) e =
     let n = length-take-le (length rows) spans fits.room in
     let room = is_room limit (length rows) (length (take (length rows) spans)) fits.some fits.short (omega arith) in
@@ -55,7 +55,7 @@ accepted_made cited limit rows spans fits s (Ok _) e =
 accepted_made cited limit rows spans fits s (Err fault) e = tt
 
 -- where the spans held are those that the scan writes, both answer alike
-rescan_agrees : {R : Type 0} (cited : R → Option (List ℕ)) (rs : List R) (done rest held : List ℕ) → held ≡ (scan cited rs done).written ++ rest → rescan cited rs done held ≡ (scan cited rs done).answer
+pub rescan_agrees : {R : Type 0} (cited : R → Option (List ℕ)) (rs : List R) (done rest held : List ℕ) → held ≡ (scan cited rs done).written ++ rest → rescan cited rs done held ≡ (scan cited rs done).answer
 rescan_agrees cited [] done rest held e = refl
 rescan_agrees cited (r ∷ rs) done rest held e =
     elim (cases_result (next_span (cited r) done)) [
@@ -68,7 +68,7 @@ rescan_agrees cited (r ∷ rs) done rest held e =
     ]
 
 -- after a screening its answer is confirmed
-screened_confirmed : {R : Type 0} (cited : R → Option (List ℕ)) (limit : ℕ) (rows : List R) (memory spans : List ℕ) → spans ≡ (screened cited limit rows memory).written → confirmed cited limit rows spans ≡ (screened cited limit rows memory).answer
+pub screened_confirmed : {R : Type 0} (cited : R → Option (List ℕ)) (limit : ℕ) (rows : List R) (memory spans : List ℕ) → spans ≡ (screened cited limit rows memory).written → confirmed cited limit rows spans ≡ (screened cited limit rows memory).answer
 screened_confirmed cited limit rows memory spans e =
     elim (cases_result (room_for limit (length rows) (length memory))) [
       | inl (_, room) ↦
@@ -96,7 +96,7 @@ table_law cited limit rows spans a =
     }
 
 -- what lists a tree, with its sizes at the front of the spans, is confirmed
-tree_confirmed : {R : Type 0} (cited : R → Option (List ℕ)) (limit : ℕ) (rows : List R) (held : List ℕ) (t : Lists cited rows) → length rows ≤ limit → (rest : List ℕ) → held ≡ spans_of (tree t) ++ rest → confirmed cited limit rows held ≡ Ok tt
+pub tree_confirmed : {R : Type 0} (cited : R → Option (List ℕ)) (limit : ℕ) (rows : List R) (held : List ℕ) (t : Lists cited rows) → length rows ≤ limit → (rest : List ℕ) → held ≡ spans_of (tree t) ++ rest → confirmed cited limit rows held ≡ Ok tt
 tree_confirmed cited limit rows held t short rest e =
     let s = tree-scan cited rows t in
     let n : length rows ≡ size (tree t) = ap length t.listing ∙ length-post (tree t) in

@@ -16,27 +16,27 @@ use Rattle.screening.proofs.Growth.{Through, Halfway, progress, room_is, is_room
 use Rattle.screening.proofs.Unique.{one_tree}
 
 -- the faults that each part of screening has
-room_size : (limit n memory : ℕ) → room_for limit n memory ≡ Err Size → (n ≡ 0) ⊎ (limit < n)
+pub room_size : (limit n memory : ℕ) → room_for limit n memory ≡ Err Size → (n ≡ 0) ⊎ (limit < n)
 room_size limit n memory e = grind (arith, nat_tests)
 
-room_memory : (limit n memory : ℕ) → room_for limit n memory ≡ Err Memory → memory < n
+pub room_memory : (limit n memory : ℕ) → room_for limit n memory ≡ Err Memory → memory < n
 room_memory limit n memory e = grind (arith, nat_tests)
 
-room_fault : (limit n memory : ℕ) (fault : ScreenFault) → room_for limit n memory ≡ Err fault → (fault ≡ Size) ⊎ (fault ≡ Memory)
+pub room_fault : (limit n memory : ℕ) (fault : ScreenFault) → room_for limit n memory ≡ Err fault → (fault ≡ Size) ⊎ (fault ≡ Memory)
 room_fault limit n memory fault e = grind (arith, nat_tests)
 
-whole_fault : (done : List ℕ) (fault : ScreenFault) → whole done ≡ Err fault → fault ≡ SeveralTrees (length done - 1)
+pub whole_fault : (done : List ℕ) (fault : ScreenFault) → whole done ≡ Err fault → fault ≡ SeveralTrees (length done - 1)
 whole_fault done fault e = grind (arith, nat_tests)
 
-next_fault : (c : Option (List ℕ)) (done : List ℕ) (fault : ScreenFault) → next_span c done ≡ Err fault → ((fault ≡ Malformed (length done)) × (c ≡ None)) ⊎ ((fault ≡ Citation (length done)) × (c ≡ None → ⊥))
+pub next_fault : (c : Option (List ℕ)) (done : List ℕ) (fault : ScreenFault) → next_span c done ≡ Err fault → ((fault ≡ Malformed (length done)) × (c ≡ None)) ⊎ ((fault ≡ Citation (length done)) × (c ≡ None → ⊥))
 next_fault c done fault e = grind arith
 
 -- where the scan stopped at a row
-record StoppedRow {R : Type 0} (cited : R → Option (List ℕ)) (rows : List R) (memory : List ℕ) (h : Halfway cited rows bare) (i : ℕ) : Type 0 where
-  stops : StopsAt cited rows memory (spans_of h.forest ++ drop (length (spans_of h.forest)) memory) i
-  row_is : (r : R) → slice_get rows i ≡ Some r → r ≡ h.row
+pub record StoppedRow {R : Type 0} (cited : R → Option (List ℕ)) (rows : List R) (memory : List ℕ) (h : Halfway cited rows bare) (i : ℕ) : Type 0 where
+  pub stops : StopsAt cited rows memory (spans_of h.forest ++ drop (length (spans_of h.forest)) memory) i
+  pub row_is : (r : R) → slice_get rows i ≡ Some r → r ≡ h.row
 
-stopped_row : {R : Type 0} (cited : R → Option (List ℕ)) (rows : List R) (memory : List ℕ) (h : Halfway cited rows bare) (i : ℕ) → i ≡ length (spans_of h.forest) → StoppedRow cited rows memory h i
+pub stopped_row : {R : Type 0} (cited : R → Option (List ℕ)) (rows : List R) (memory : List ℕ) (h : Halfway cited rows bare) (i : ℕ) → i ≡ length (spans_of h.forest) → StoppedRow cited rows memory h i
 stopped_row cited rows memory h i m =
     let f = h.forest in
     let p : length h.passed ≡ i = omega (arith, ap length h.listing, length-post f, length-spans_of f) in
@@ -60,7 +60,7 @@ stopped_row cited rows memory h i m =
     }
 
 -- where there is no room
-without_room : {R : Type 0} (cited : R → Option (List ℕ)) (limit : ℕ) (rows : List R) (memory : List ℕ) (fault : ScreenFault) → room_for limit (length rows) (length memory) ≡ Err fault → ScreeningLaw cited limit rows memory (Err fault) memory
+pub without_room : {R : Type 0} (cited : R → Option (List ℕ)) (limit : ℕ) (rows : List R) (memory : List ℕ) (fault : ScreenFault) → room_for limit (length rows) (length memory) ≡ Err fault → ScreeningLaw cited limit rows memory (Err fault) memory
 without_room cited limit rows memory fault e =
     let q = room_fault limit (length rows) (length memory) fault e in
     record {
@@ -77,7 +77,7 @@ without_room cited limit rows memory fault e =
     }
 
 -- where the scan came through
-came_through : {R : Type 0} (cited : R → Option (List ℕ)) (limit : ℕ) (rows : List R) (memory : List ℕ) → room_for limit (length rows) (length memory) ≡ Ok tt → (t : Through cited rows bare) → ScreeningLaw cited limit rows memory (whole (spans_of t.forest)) (spans_of t.forest ++ drop (length (spans_of t.forest)) memory)
+pub came_through : {R : Type 0} (cited : R → Option (List ℕ)) (limit : ℕ) (rows : List R) (memory : List ℕ) → room_for limit (length rows) (length memory) ≡ Ok tt → (t : Through cited rows bare) → ScreeningLaw cited limit rows memory (whole (spans_of t.forest)) (spans_of t.forest ++ drop (length (spans_of t.forest)) memory)
 came_through cited limit rows memory room t =
     let r = room_is limit (length rows) (length memory) room in
     let f = t.forest in
@@ -104,7 +104,7 @@ came_through cited limit rows memory room t =
     }
 
 -- where it stopped at a row
-came_halfway : {R : Type 0} (cited : R → Option (List ℕ)) (limit : ℕ) (rows : List R) (memory : List ℕ) (h : Halfway cited rows bare) → ScreeningLaw cited limit rows memory (Err h.fault) (spans_of h.forest ++ drop (length (spans_of h.forest)) memory)
+pub came_halfway : {R : Type 0} (cited : R → Option (List ℕ)) (limit : ℕ) (rows : List R) (memory : List ℕ) (h : Halfway cited rows bare) → ScreeningLaw cited limit rows memory (Err h.fault) (spans_of h.forest ++ drop (length (spans_of h.forest)) memory)
 came_halfway cited limit rows memory h =
     let q = next_fault (cited h.row) (spans_of h.forest) h.fault h.refused in
     record {

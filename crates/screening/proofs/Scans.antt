@@ -10,10 +10,10 @@ pub cases_result : {T E : Type 0} (r : Result T E) → ((x : T) × (r ≡ Ok x))
 cases_result (Ok x) = inl (x, refl)
 cases_result (Err e) = inr (e, refl)
 
-told_ok : (o : Result ℕ ScreenFault) → Ok tt ≡ told o → (s : ℕ) × (o ≡ Ok s)
+pub told_ok : (o : Result ℕ ScreenFault) → Ok tt ≡ told o → (s : ℕ) × (o ≡ Ok s)
 told_ok o e = grind arith
 
-told_err : (o : Result ℕ ScreenFault) (fault : ScreenFault) → Err fault ≡ told o → o ≡ Err fault
+pub told_err : (o : Result ℕ ScreenFault) (fault : ScreenFault) → Err fault ≡ told o → o ≡ Err fault
 told_err o fault e = grind arith
 
 -- one citation that is where it has to be
@@ -21,7 +21,7 @@ pub before_is : (done : List ℕ) (p : ℕ) (o : Option ℕ) (m : ℕ) → befor
 before_is done p o m e = grind (arith, nat_tests)
 
 -- the trees that are cited fill the rows from where they begin
-laid-total : (done : List ℕ) (n : ℕ) → Bounded done → n ≤ length done → (ps : List ℕ) (m : ℕ) → laid done n ps ≡ Some m → m + total done ps ≡ n
+pub laid-total : (done : List ℕ) (n : ℕ) → Bounded done → n ≤ length done → (ps : List ℕ) (m : ℕ) → laid done n ps ≡ Some m → m + total done ps ≡ n
 laid-total done n b l [] m e = grind arith
 laid-total done n b l (p ∷ ps) m e =
     grind (arith, b, before_is done p (laid done n ps) m e, laid-total done n b l ps)
@@ -46,10 +46,10 @@ pub placed : (c : Option (List ℕ)) (done : List ℕ) (s : ℕ) → next_span c
 placed c done s e = grind arith
 
 -- one more row that was given a span
-bounded_more : (done : List ℕ) (s : ℕ) → Bounded done → s ≤ length done + 1 → Bounded (done ++ s ∷ [])
+pub bounded_more : (done : List ℕ) (s : ℕ) → Bounded done → s ≤ length done + 1 → Bounded (done ++ s ∷ [])
 bounded_more done s b h k l = grind (arith, common_steps)
 
-bounded_next : (c : Option (List ℕ)) (done : List ℕ) (s : ℕ) → Bounded done → next_span c done ≡ Ok s → Bounded (done ++ s ∷ [])
+pub bounded_next : (c : Option (List ℕ)) (done : List ℕ) (s : ℕ) → Bounded done → next_span c done ≡ Ok s → Bounded (done ++ s ∷ [])
 bounded_next c done s b e =
     bounded_more done s b (grind (arith, laid-total done (length done) b, placed c done s e))
 
@@ -76,11 +76,11 @@ pub record Scanned {R : Type 0} (cited : R → Option (List ℕ)) (rows : List R
   pub bounded : Bounded (take i spans)
 
 -- the scan at row i, where its span is o
-abbrev from_row : {R : Type 0} → (R → Option (List ℕ)) → List R → ℕ → List ℕ → Result ℕ ScreenFault → Screened
+abbrev pub from_row : {R : Type 0} → (R → Option (List ℕ)) → List R → ℕ → List ℕ → Result ℕ ScreenFault → Screened
 from_row cited rows i spans o = with_span (take i spans) o (λ s. scan cited (drop (i + 1) rows) (take i spans ++ s ∷ []))
 
 -- the scan, at the row after those that were scanned
-here : {R : Type 0} (cited : R → Option (List ℕ)) (rows : List R) (memory : List ℕ) (i : ℕ) (spans : List ℕ) → Scanned cited rows memory i spans → (r : R) → i < length rows → r ≡ get_or rows i r → scan cited rows [] ≡ from_row cited rows i spans (next_span (cited r) (take i spans))
+pub here : {R : Type 0} (cited : R → Option (List ℕ)) (rows : List R) (memory : List ℕ) (i : ℕ) (spans : List ℕ) → Scanned cited rows memory i spans → (r : R) → i < length rows → r ≡ get_or rows i r → scan cited rows [] ≡ from_row cited rows i spans (next_span (cited r) (take i spans))
 here cited rows memory i spans inv r l e =
     let f : scan cited (drop i rows) (take i spans) ≡ from_row cited rows i spans (next_span (cited (get_or rows i r)) (take i spans)) = at_drop_more (λ rs. scan cited rs (take i spans)) rows i r l in
     sym inv.left ∙ f ∙ ap (λ x. from_row cited rows i spans (next_span (cited x) (take i spans))) (sym e)
@@ -108,7 +108,7 @@ pub record Stopped {R : Type 0} (cited : R → Option (List ℕ)) (limit : ℕ) 
 over_rest : (i : ℕ) (spans memory : List ℕ) → drop i spans ≡ drop i memory → i ≤ length spans → spans ≡ take i spans ++ drop (length (take i spans)) memory
 over_rest i spans memory r m = grind (arith, common_steps)
 
-stopped : {R : Type 0} (cited : R → Option (List ℕ)) (limit : ℕ) (rows : List R) (memory : List ℕ) (i : ℕ) (spans : List ℕ) → Scanned cited rows memory i spans → Ok tt ≡ room_for limit (length rows) (length memory) → i ≤ length spans → (a : Result (Unit {0}) ScreenFault) → scan cited rows [] ≡ record { answer = a; written = take i spans } → Stopped cited limit rows memory spans a
+pub stopped : {R : Type 0} (cited : R → Option (List ℕ)) (limit : ℕ) (rows : List R) (memory : List ℕ) (i : ℕ) (spans : List ℕ) → Scanned cited rows memory i spans → Ok tt ≡ room_for limit (length rows) (length memory) → i ≤ length spans → (a : Result (Unit {0}) ScreenFault) → scan cited rows [] ≡ record { answer = a; written = take i spans } → Stopped cited limit rows memory spans a
 stopped cited limit rows memory i spans inv room m a e =
     record { answer = rw (← room, e); written = rw (← room, e) (over_rest i spans memory inv.rest m) }
 

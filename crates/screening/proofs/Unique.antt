@@ -6,14 +6,14 @@ use Rattle.screening.proofs.Forests.{length-spans_of, length-post, apart, size_z
 use Rattle.screening.proofs.Growth.{tree-scan}
 
 -- equal lists, cut at the same place
-parts_same : {X : Type 0} (a b c d : List X) → a ++ b ≡ c ++ d → length a ≡ length c → (a ≡ c) × (b ≡ d)
+pub parts_same : {X : Type 0} (a b c d : List X) → a ++ b ≡ c ++ d → length a ≡ length c → (a ≡ c) × (b ≡ d)
 parts_same [] b [] d e n = (refl, e)
 parts_same [] b (y ∷ c) d e n = absurd (omega arith)
 parts_same (x ∷ a) b [] d e n = absurd (omega arith)
 parts_same (x ∷ a) b (y ∷ c) d e n = grind (arith, parts_same a b c d)
 
 -- the rows and the spans say which forest it is
-same_forest : {R : Type 0} (n : ℕ) (f g : Forest R) → size f ≤ n → post f ≡ post g → spans_of f ≡ spans_of g → f ≡ g
+pub same_forest : {R : Type 0} (n : ℕ) (f g : Forest R) → size f ≤ n → post f ≡ post g → spans_of f ≡ spans_of g → f ≡ g
 same_forest zero f g h p s = size_zero f (omega arith) ∙ sym (size_zero g (omega (arith, length-post f, length-post g, ap length p)))
 same_forest (suc n) bare g h p s = sym (size_zero g (omega (arith, length-post g, ap length p)))
 same_forest (suc n) (plant q d t) g h p s =
