@@ -19,13 +19,13 @@ use stepping::tree::Command;
 
 // Takes small steps as long as there is one, up to a limit, and prints each configuration that it comes to.
 #[tactic(auto, using(crate::proofs::Walks::walking))]
-fn walk(
+fn walk<const N: usize>(
     rt: &impl Print,
     heap: Global,
-    configuration: &mut Configuration,
+    configuration: &mut Configuration<N>,
     limit: u32,
 ) -> io::Result<Outcome>
-    ensures { IfOk result (ComesTo (command_of configuration.old.command) configuration.old.numbers.items (command_of configuration.new.command) configuration.new.numbers.items limit) }
+    ensures { IfOk result (ComesTo (command_of configuration.old.command) configuration.old.numbers (command_of configuration.new.command) configuration.new.numbers limit) }
 {
     // a counter, since the number of steps is what is answered
     for steps in 0..limit {
@@ -49,7 +49,8 @@ fn walk(
 
 // Walks a program from no bindings, and says how it came out.
 fn show_walk(rt: &impl Print, heap: Global, command: Command, limit: u32) -> io::Result<()> {
-    let mut configuration = Configuration::start(heap, example::NAMES, command)?;
+    // one number, for the one name
+    let mut configuration = Configuration::<1>::start(example::NAMES, command);
     let outcome = walk(rt, heap, &mut configuration, limit)?;
     println!(rt; "{outcome}")
 }
